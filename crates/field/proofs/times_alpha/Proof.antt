@@ -1,0 +1,14 @@
+-- `field::times_alpha` meets its contract: w moved up, with what the table has for its highest byte, is α w.
+-- Assumes nothing.
+use denote.Ref.{now}
+use Rattle.field.proofs.Elements.{alpha-by}
+use borrow.Author.Needs.{needs}
+use Rattle.field.proofs.times_alpha.Statement.{statement}
+use Rattle.field.proofs.times_alpha.Tie as tie
+
+returns : tie.Need-returns
+returns c = λ f h. alpha-by f (now (c .before .args .t)) h (c .before .args .w) (c .before .fits .w .fits)
+
+pub times-alpha-spec : {M : Type 1} → statement M
+times-alpha-spec =
+    tie.close (tie.spec (search needs) (search needs) (search needs) returns)

@@ -1,0 +1,43 @@
+-- The byte substitution SUB of AES (document 000, 8.1.8) and the function T of 8.2.5, which 8.5.5 has as Sub_K2, over GF(2)[x] modulo
+-- x^8 + x^4 + x^3 + x + 1.
+-- Assumes nothing.
+use Prim.Native.Nat.{ℕ, zero, suc, _+_, _*_, _/_, _%_, _^_}
+use Rattle.words.specs.Word.{_⊕_, word, b0, b1, b2, b3}
+use Rattle.field.specs.Gf8.{mul8}
+
+abbrev pub aes : ℕ
+aes = 0x11b
+
+-- a^(2^(n + 1) - 2): the product of a^2, a^4, .., n factors
+abbrev pub squares : ℕ → ℕ → ℕ
+squares zero a = 1
+squares (suc n) a = mul8 aes (mul8 aes a a) (squares n (mul8 aes a a))
+
+-- the inverse of a, which is a^254, and 0 of 0
+abbrev pub inverse : ℕ → ℕ
+inverse a = squares 7 a
+
+-- the eight digits of a moved k places up, those that leave coming in below
+abbrev pub turned : ℕ → ℕ → ℕ
+turned k a = a * 2 ^ k % 2 ^ 8 + a * 2 ^ k / 2 ^ 8
+
+-- the affine map
+abbrev pub affine : ℕ → ℕ
+affine a = a ⊕ turned 1 a ⊕ turned 2 a ⊕ turned 3 a ⊕ turned 4 a ⊕ 0x63
+
+-- SUB
+unfoldable pub sub : ℕ → ℕ
+sub a = affine (inverse a)
+
+-- 8.2.5 c) to e): c(y) t(y) modulo y^4 + 1 with c(y) = (x + 1) y^3 + y^2 + y + x, its coefficients q3, q2, q1, q0
+unfoldable pub mix : ℕ → ℕ → ℕ → ℕ → ℕ
+mix t3 t2 t1 t0 =
+    word
+    (mul8 aes t0 3 ⊕ t1 ⊕ t2 ⊕ mul8 aes t3 2)
+    (t0 ⊕ t1 ⊕ mul8 aes t2 2 ⊕ mul8 aes t3 3)
+    (t0 ⊕ mul8 aes t1 2 ⊕ mul8 aes t2 3 ⊕ t3)
+    (mul8 aes t0 2 ⊕ mul8 aes t1 3 ⊕ t2 ⊕ t3)
+
+-- T
+unfoldable pub fnT : ℕ → ℕ
+fnT w = mix (sub (b3 w)) (sub (b2 w)) (sub (b1 w)) (sub (b0 w))

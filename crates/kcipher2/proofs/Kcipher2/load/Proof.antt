@@ -1,0 +1,15 @@
+-- `kcipher2::Kcipher2::load` meets its contract: what its parts ensure, put together.
+-- Assumes nothing.
+use Rattle.kcipher2.specs.Cipher.{loaded, arranged}
+use borrow.Author.Needs.{needs}
+use Rattle.kcipher2.proofs.Kcipher2.load.Statement.{statement}
+use Rattle.kcipher2.proofs.Kcipher2.load.Tie as tie
+
+returns : tie.Need-returns
+unfolding loaded arranged
+returns c = cc
+
+pub load-spec : {M : Type 1} → statement M
+load-spec =
+    tie.close (tie.spec (λ c κs. search needs) (λ c κs. search needs) (λ c κs. search needs) (λ c κs. search needs)
+    (λ c κs. search needs) (λ c κs. search needs) returns)

@@ -1,0 +1,14 @@
+-- `kcipher2::Kcipher2::low` meets its contract: the cells are those of the clause.
+-- Assumes nothing.
+use Rattle.kcipher2.specs.Cipher.{strmLow}
+use borrow.Author.Needs.{needs}
+use Rattle.kcipher2.proofs.Kcipher2.low.Statement.{statement}
+use Rattle.kcipher2.proofs.Kcipher2.low.Tie as tie
+
+returns : tie.Need-returns
+unfolding strmLow
+returns c = c .nlf .ensures
+
+pub low-spec : {M : Type 1} → statement M
+low-spec =
+    tie.close (tie.spec (search needs) (search needs) (λ c κs. search needs) returns)

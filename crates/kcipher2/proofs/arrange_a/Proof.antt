@@ -1,0 +1,15 @@
+-- `kcipher2::arrange_a` meets its contract: the literal is the list.
+-- Assumes nothing.
+use mathlib.Core.Path.{refl}
+use Rattle.kcipher2.specs.Cipher.{cellsA}
+use borrow.Author.Needs.{needs}
+use Rattle.kcipher2.proofs.arrange_a.Statement.{statement}
+use Rattle.kcipher2.proofs.arrange_a.Tie as tie
+
+returns : tie.Need-returns
+unfolding cellsA
+returns c = refl
+
+pub arrange-a-spec : {M : Type 1} → statement M
+arrange-a-spec =
+    tie.close (tie.spec (search needs) (search needs) (search needs) (search needs) (search needs) returns)

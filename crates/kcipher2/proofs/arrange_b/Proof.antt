@@ -1,0 +1,16 @@
+-- `kcipher2::arrange_b` meets its contract: the literal is the list.
+-- Assumes nothing.
+use mathlib.Core.Path.{refl}
+use Rattle.kcipher2.specs.Cipher.{cellsB}
+use borrow.Author.Needs.{needs}
+use Rattle.kcipher2.proofs.arrange_b.Statement.{statement}
+use Rattle.kcipher2.proofs.arrange_b.Tie as tie
+
+returns : tie.Need-returns
+unfolding cellsB
+returns c = refl
+
+pub arrange-b-spec : {M : Type 1} → statement M
+arrange-b-spec =
+    tie.close (tie.spec (search needs) (search needs) (search needs) (search needs) (search needs) (search needs)
+    (search needs) (search needs) (search needs) (search needs) (search needs) returns)

@@ -1,0 +1,14 @@
+-- `kcipher2::tables::alpha2` meets its contract: the constant is the list.
+-- Assumes nothing.
+use mathlib.Core.Path.{refl}
+use Rattle.kcipher2.specs.Tables.{alpha2List}
+use Rattle.kcipher2.proofs.tables.alpha2.Statement.{statement}
+use Rattle.kcipher2.proofs.tables.alpha2.Tie as tie
+
+returns : tie.Need-returns
+unfolding alpha2List
+returns c = refl
+
+pub alpha2-spec : {M : Type 1} → statement M
+alpha2-spec =
+    tie.close (tie.spec returns)

@@ -1,0 +1,14 @@
+-- `rabbit::Rabbit::add_iv` meets its contract: what its parts ensure, put together.
+-- Assumes nothing.
+use Rattle.rabbit.specs.Cipher.{withIv}
+use borrow.Author.Needs.{needs}
+use Rattle.rabbit.proofs.Rabbit.add_iv.Statement.{statement}
+use Rattle.rabbit.proofs.Rabbit.add_iv.Tie as tie
+
+returns : tie.Need-returns
+unfolding withIv
+returns c = cc
+
+pub add-iv-spec : {M : Type 1} → statement M
+add-iv-spec =
+    tie.close (tie.spec (λ c κs. search needs) (λ c κs. search needs) (λ c κs. search needs) returns)

@@ -1,0 +1,14 @@
+-- `rabbit::Rabbit::init` meets its contract: the key's state, started.
+-- Assumes nothing.
+use Rattle.rabbit.specs.Cipher.{init}
+use borrow.Author.Needs.{needs}
+use Rattle.rabbit.proofs.Rabbit.init.Statement.{statement}
+use Rattle.rabbit.proofs.Rabbit.init.Tie as tie
+
+returns : tie.Need-returns
+unfolding init
+returns c = rw (c .start .ensures, c .before .master .ensures)
+
+pub init-spec : {M : Type 1} → statement M
+init-spec =
+    tie.close (tie.spec (λ c κs. search needs) (λ c κs. search needs) returns)

@@ -1,0 +1,23 @@
+-- `rabbit::Rabbit::output` meets its contract: the parts are those of 7.3.4.
+-- Assumes nothing.
+use mathlib.Core.Path.{refl}
+use Rattle.words.proofs.Registers.{cons}
+use Rattle.rabbit.specs.Cipher.{strm}
+use borrow.Author.Needs.{needs}
+use Rattle.rabbit.proofs.Rabbit.output.Statement.{statement}
+use Rattle.rabbit.proofs.Rabbit.output.Tie as tie
+
+returns : tie.Need-returns
+unfolding strm
+returns c =
+    cons (c .before .before .before .part .ensures)
+    (cons (c .before .before .part2 .ensures)
+    (cons (c .before .part3 .ensures)
+    (cons (c .part4 .ensures)
+    refl)))
+
+pub output-spec : {M : Type 1} → statement M
+output-spec =
+    tie.close (tie.spec (search needs) (search needs) (search needs) (λ c κs. search needs) (search needs)
+    (search needs) (search needs) (λ c κs. search needs) (search needs) (search needs) (search needs)
+    (λ c κs. search needs) (search needs) (search needs) (search needs) (λ c κs. search needs) returns)

@@ -1,0 +1,18 @@
+-- `rabbit::modify` meets its contract: the literal is the list.
+-- Assumes nothing.
+use mathlib.Core.Path.{refl}
+use Rattle.rabbit.specs.Cipher.{modified}
+use borrow.Author.Needs.{needs}
+use Rattle.rabbit.proofs.modify.Statement.{statement}
+use Rattle.rabbit.proofs.modify.Tie as tie
+
+returns : tie.Need-returns
+unfolding modified
+returns c = refl
+
+pub modify-spec : {M : Type 1} → statement M
+modify-spec =
+    tie.close (tie.spec (search needs) (search needs) (search needs) (search needs) (search needs) (search needs)
+    (search needs) (search needs) (search needs) (search needs) (search needs) (search needs) (search needs)
+    (search needs) (search needs) (search needs) (search needs) (search needs) (search needs) (search needs)
+    (search needs) (search needs) (search needs) (search needs) returns)

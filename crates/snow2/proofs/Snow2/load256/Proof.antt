@@ -1,0 +1,15 @@
+-- `snow2::Snow2::load256` meets its contract: the words of key and IV are read in order.
+-- Assumes nothing.
+use Rattle.snow2.specs.Cipher.{loaded256}
+use borrow.Author.Needs.{needs}
+use Rattle.snow2.proofs.Snow2.load256.Statement.{statement}
+use Rattle.snow2.proofs.Snow2.load256.Tie as tie
+
+returns : tie.Need-returns
+unfolding loaded256
+returns c = cc
+
+pub load256-spec : {M : Type 1} → statement M
+load256-spec =
+    tie.close (tie.spec (λ c κs. search needs) (λ c κs. search needs) (λ c κs. search needs) (λ c κs. search needs)
+    (λ c κs. search needs) (λ c κs. search needs) returns)

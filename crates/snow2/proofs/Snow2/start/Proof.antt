@@ -1,0 +1,36 @@
+-- `snow2::Snow2::start` meets its contract. The loop's invariant: the state is that of i steps in INIT mode.
+-- Assumes nothing.
+use mathlib.Core.Path.{_≡_, refl}
+use Prim.Native.Nat.{_-_, _≤_}
+use native.Mathlib.Omega.{arith}
+use Rattle.words.specs.Lists.{iter}
+use Rattle.words.proofs.Registers.{iter-more}
+use Rattle.snow2.specs.Cipher.{started, nextInit}
+use borrow.Author.Needs.{needs}
+use Rattle.snow2.proofs.Snow2.start.Statement.{statement}
+use Rattle.snow2.proofs.Snow2.start.Tie as tie
+
+abbrev Inv-loop : tie.InvT-loop
+Inv-loop a ai t s₀ i₀ s i = (i ≤ 32) × (s ≡ iter i nextInit s₀)
+
+abbrev μ-loop : tie.MeasureT-loop
+μ-loop a ai t s₀ i₀ s i = 32 - i
+
+loop-holds : tie.Need-loop-holds Inv-loop μ-loop
+unfolding iter
+loop-holds c = (search needs, refl)
+
+loop-again : tie.Need-loop-again Inv-loop μ-loop
+loop-again c = (omega arith, rw (c .step-init .ensures, c .before .before .loop .inv .1, iter-more))
+
+returns : tie.Need-returns Inv-loop μ-loop
+unfolding started
+returns c =
+    let p = c .before .before in
+    let e : p .loop .i ≡ 32 = omega arith in
+    rw (c .step .ensures, p .loop .inv .1, e)
+
+pub start-spec : {M : Type 1} → statement M
+start-spec =
+    tie.close (tie.spec Inv-loop μ-loop loop-holds (λ c κs. search needs) (search needs) (search needs) loop-again
+    (λ c κs. search needs) returns)

@@ -1,0 +1,5 @@
+pub mod Table
+pub mod Registers
+pub mod Ranges
+pub mod Xor
+pub mod Digits

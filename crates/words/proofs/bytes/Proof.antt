@@ -1,0 +1,15 @@
+-- `words::bytes` meets its contract: a quotient's remainder by 256 fits a byte.
+-- Assumes nothing.
+use mathlib.Core.Path.{refl}
+use Rattle.words.specs.Strings.{bytesOf}
+use borrow.Author.Needs.{needs}
+use Rattle.words.proofs.bytes.Statement.{statement}
+use Rattle.words.proofs.bytes.Tie as tie
+
+returns : tie.Need-returns
+unfolding bytesOf
+returns c = refl
+
+pub bytes-spec : {M : Type 1} → statement M
+bytes-spec =
+    tie.close (tie.spec (search needs) (search needs) (search needs) (search needs) returns)

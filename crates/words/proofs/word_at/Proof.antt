@@ -1,0 +1,15 @@
+-- `words::word_at` meets its contract: the four bytes are read in order.
+-- Assumes nothing.
+use Rattle.words.specs.Strings.{wordAt}
+use borrow.Author.Needs.{needs}
+use Rattle.words.proofs.word_at.Statement.{statement}
+use Rattle.words.proofs.word_at.Tie as tie
+
+returns : tie.Need-returns
+unfolding wordAt
+returns c = c .join .ensures
+
+pub word-at-spec : {M : Type 1} → statement M
+word-at-spec =
+    tie.close (tie.spec (search needs) (search needs) (search needs) (search needs) (search needs) (search needs)
+    (search needs) (search needs) returns)

@@ -1,0 +1,14 @@
+-- `zuc::Zuc::output` meets its contract: what its parts ensure, put together.
+-- Assumes nothing.
+use Rattle.zuc.specs.Cipher.{strm}
+use borrow.Author.Needs.{needs}
+use Rattle.zuc.proofs.Zuc.output.Statement.{statement}
+use Rattle.zuc.proofs.Zuc.output.Tie as tie
+
+returns : tie.Need-returns
+unfolding strm
+returns c = rw (c .low-high .ensures, c .before .word .ensures)
+
+pub output-spec : {M : Type 1} → statement M
+output-spec =
+    tie.close (tie.spec (search needs) (search needs) (search needs) (search needs) returns)

@@ -1,0 +1,15 @@
+-- `zuc::Zuc::step` meets its contract: the state is clocked with the mended feedback.
+-- Assumes nothing.
+use Rattle.zuc.specs.Cipher.{next, fed}
+use borrow.Author.Needs.{needs}
+use Rattle.zuc.proofs.Zuc.step.Statement.{statement}
+use Rattle.zuc.proofs.Zuc.step.Tie as tie
+
+returns : tie.Need-returns
+unfolding next fed
+returns c = rw (c .clock .ensures, c .before .mend .ensures, c .before .before .feedback .ensures)
+
+pub step-spec : {M : Type 1} → statement M
+step-spec =
+    tie.close (tie.spec (search needs) (search needs) (search needs) (search needs) (search needs)
+    (λ c κs. search needs) (λ c κs. search needs) (λ c κs. search needs) returns)

@@ -1,0 +1,14 @@
+-- `zuc::tables::d` meets its contract: the constant is the list.
+-- Assumes nothing.
+use mathlib.Core.Path.{refl}
+use Rattle.zuc.specs.Tables.{d}
+use Rattle.zuc.proofs.tables.d.Statement.{statement}
+use Rattle.zuc.proofs.tables.d.Tie as tie
+
+returns : tie.Need-returns
+unfolding d
+returns c = refl
+
+pub d-spec : {M : Type 1} → statement M
+d-spec =
+    tie.close (tie.spec returns)

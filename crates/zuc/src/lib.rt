@@ -1,0 +1,202 @@
+// ZUC (ISO/IEC 18033-4:2011/Amd 1:2020, 8.6): a state by value, its steps in both modes, its output and its start from key and IV.
+// A caller holds the lengths of key and IV, sixteen bytes each, and lends the tables that `tables` makes.
+pub mod tables;
+
+ghost use mathlib.Core.Path.{_≡_};
+ghost use Prim.Native.Nat.{_+_};
+ghost use lib.ListN.{length};
+ghost use Rattle.words.specs.Word.{_∥_, low, high};
+ghost use Rattle.zuc.specs.Tables.{Lent};
+ghost use Rattle.zuc.specs.Cipher.{l1, l2, ss, cellHigh, w as wordW, weighed, mended, nextR1, nextR2, clocked, next, nextInit, strm, cellOf, loaded, init as initOf};
+
+// A0..A15, R1 and R2.
+pub struct Zuc {
+    pub a: [u32; 16],
+    pub r1: u32,
+    pub r2: u32,
+}
+
+// L1 of 8.6.6.
+fn linear1(x: u32) -> u32
+    ensures { λ r. ⌜ r ≡ l1 x ⌝ }
+{
+    x
+        ^ ((x << 2) + (x >> 30))
+        ^ ((x << 10) + (x >> 22))
+        ^ ((x << 18) + (x >> 14))
+        ^ ((x << 24) + (x >> 8))
+}
+
+// L2 of 8.6.6.
+fn linear2(x: u32) -> u32
+    ensures { λ r. ⌜ r ≡ l2 x ⌝ }
+{
+    x
+        ^ ((x << 8) + (x >> 24))
+        ^ ((x << 14) + (x >> 18))
+        ^ ((x << 22) + (x >> 10))
+        ^ ((x << 30) + (x >> 2))
+}
+
+// SS of 8.6.5.
+fn substitute(x: u32, t1: &[u8; 256], t2: &[u8; 256]) -> u32
+    requires { ⌜ Lent (now t1) (now t2) ⌝ }
+    ensures { λ r. ⌜ r ≡ ss x ⌝ }
+{
+    let y3 = words::entry(t1, (x / 16777216 % 256) as u8);
+    let y2 = words::entry(t2, (x / 65536 % 256) as u8);
+    let y1 = words::entry(t1, (x / 256 % 256) as u8);
+    let y0 = words::entry(t2, (x % 256) as u8);
+    words::join(y3, y2, y1, y0)
+}
+
+// The leftmost 16 bits of cell a, then the rightmost 16 of cell b.
+fn high_low(a: u32, b: u32) -> u32
+    ensures { λ r. ⌜ r ≡ cellHigh a ∥ low b ⌝ }
+{
+    (a / 32768 % 65536) * 65536 + b % 65536
+}
+
+// The rightmost 16 bits of cell a, then the leftmost 16 of cell b.
+fn low_high(a: u32, b: u32) -> u32
+    ensures { λ r. ⌜ r ≡ low a ∥ cellHigh b ⌝ }
+{
+    (a % 65536) * 65536 + b / 32768 % 65536
+}
+
+// The rightmost 16 bits of word a, then the leftmost 16 of word b.
+fn cross(a: u32, b: u32) -> u32
+    ensures { λ r. ⌜ r ≡ low a ∥ high b ⌝ }
+{
+    (a % 65536) * 65536 + b / 65536
+}
+
+// The next R1, of W1 and W2.
+fn next_r1(w1: u32, w2: u32, t1: &[u8; 256], t2: &[u8; 256]) -> u32
+    requires { ⌜ Lent (now t1) (now t2) ⌝ }
+    ensures { λ r. ⌜ r ≡ nextR1 w1 w2 ⌝ }
+{
+    substitute(linear1(cross(w1, w2)), t1, t2)
+}
+
+// The next R2, of W1 and W2.
+fn next_r2(w1: u32, w2: u32, t1: &[u8; 256], t2: &[u8; 256]) -> u32
+    requires { ⌜ Lent (now t1) (now t2) ⌝ }
+    ensures { λ r. ⌜ r ≡ nextR2 w1 w2 ⌝ }
+{
+    substitute(linear2(cross(w2, w1)), t1, t2)
+}
+
+// V of 8.6.3 c).
+fn feedback(a15: u32, a13: u32, a10: u32, a4: u32, a0: u32) -> u32
+    ensures { λ r. ⌜ r ≡ weighed a15 a13 a10 a4 a0 ⌝ }
+{
+    let sum = 32768 * (a15 as u64)
+        + 131072 * (a13 as u64)
+        + 2097152 * (a10 as u64)
+        + 1048576 * (a4 as u64)
+        + 257 * (a0 as u64);
+    (sum % 2147483647) as u32
+}
+
+// The feedback, with 2^31 - 1 in the place of 0.
+fn mend(x: u32) -> u32
+    ensures { λ r. ⌜ r ≡ mended x ⌝ }
+{
+    if x == 0 { 2147483647 } else { x }
+}
+
+// A cell of 8.6.2 a).
+fn cell(k: u8, x: u16, iv: u8) -> u32
+    ensures { λ r. ⌜ r ≡ cellOf k x iv ⌝ }
+{
+    (k as u32) * 8388608 + (x as u32) * 256 + (iv as u32)
+}
+
+impl Zuc {
+    // The state of key and IV before any step.
+    pub fn load(key: &[u8], iv: &[u8]) -> Zuc
+        requires { ⌜ length (now key) ≡ 16 ⌝ }
+        requires { ⌜ length (now iv) ≡ 16 ⌝ }
+        ensures { λ r. ⌜ r ≡ loaded (now (key .entry)) (now (iv .entry)) ⌝ }
+    {
+        let d = tables::d();
+        let mut a = [0u32; 16];
+        let mut i: usize = 0;
+        while i < 16 {
+            a[i] = cell(key[i], d[i], iv[i]);
+            i += 1;
+        }
+        Zuc { a, r1: 0, r2: 0 }
+    }
+
+    // W of 8.6.3 b).
+    fn word(self) -> u32
+        ensures { λ r. ⌜ r ≡ wordW self ⌝ }
+    {
+        let a = self.a;
+        std::num::wrapping_add_u32(high_low(a[15], a[14]) ^ self.r1, self.r2)
+    }
+
+    // The next state, with the feedback x.
+    fn clock(self, x: u32, t1: &[u8; 256], t2: &[u8; 256]) -> Zuc
+        requires { ⌜ Lent (now t1) (now t2) ⌝ }
+        ensures { λ r. ⌜ r ≡ clocked self x ⌝ }
+    {
+        let a = self.a;
+        let w1 = std::num::wrapping_add_u32(self.r1, low_high(a[11], a[9]));
+        let w2 = self.r2 ^ low_high(a[7], a[5]);
+        let b = words::shift16(a, x);
+        Zuc {
+            a: b,
+            r1: next_r1(w1, w2, t1, t2),
+            r2: next_r2(w1, w2, t1, t2),
+        }
+    }
+
+    // A step in INIT mode.
+    pub fn step_init(self, t1: &[u8; 256], t2: &[u8; 256]) -> Zuc
+        requires { ⌜ Lent (now t1) (now t2) ⌝ }
+        ensures { λ r. ⌜ r ≡ nextInit self ⌝ }
+    {
+        let a = self.a;
+        let w = self.word();
+        let v = feedback(a[15], a[13], a[10], a[4], a[0]);
+        let x = mend(((v as u64 + (w / 2) as u64) % 2147483647) as u32);
+        self.clock(x, t1, t2)
+    }
+
+    // The next state.
+    pub fn step(self, t1: &[u8; 256], t2: &[u8; 256]) -> Zuc
+        requires { ⌜ Lent (now t1) (now t2) ⌝ }
+        ensures { λ r. ⌜ r ≡ next self ⌝ }
+    {
+        let a = self.a;
+        let x = mend(feedback(a[15], a[13], a[10], a[4], a[0]));
+        self.clock(x, t1, t2)
+    }
+
+    // The word of keystream.
+    pub fn output(self) -> u32
+        ensures { λ r. ⌜ r ≡ strm self ⌝ }
+    {
+        let a = self.a;
+        self.word() ^ low_high(a[2], a[0])
+    }
+
+    // S(0) of key and IV.
+    pub fn init(key: &[u8], iv: &[u8], t1: &[u8; 256], t2: &[u8; 256]) -> Zuc
+        requires { ⌜ length (now key) ≡ 16 ⌝ }
+        requires { ⌜ length (now iv) ≡ 16 ⌝ }
+        requires { ⌜ Lent (now t1) (now t2) ⌝ }
+        ensures { λ r. ⌜ r ≡ initOf (now (key .entry)) (now (iv .entry)) ⌝ }
+    {
+        let mut s = Zuc::load(key, iv);
+        let mut i: usize = 0;
+        while i < 32 {
+            s = s.step_init(t1, t2);
+            i += 1;
+        }
+        s.step(t1, t2)
+    }
+}
