@@ -25,7 +25,7 @@ sub-rule k h = entries sub subList tt k h
 
 sub-bytes : All Byte subList
 unfolding subList
-sub-bytes = all-under 256 0 subList tt
+sub-bytes = all-under 256 subList tt
 
 pub sub-byte : (k : ℕ) → k < 2 ^ 8 → Byte (sub k)
 sub-byte k h = subst Byte (sub-rule k h) (all-at (lit< tt) sub-bytes k)

@@ -1,17 +1,18 @@
 -- What operations on words and bytes keep: sums, exclusive ors and joined bytes are words, the bytes of a word are bytes, and what holds of each cell
 -- of a register and of the word that comes in holds after a move.
 -- Assumes nothing.
-use mathlib.Core.Path.{subst⁻¹}
+use mathlib.Core.Path.{_≡_, sym, subst⁻¹, _∙_}
 use mathlib.Core.List.{List, [], _∷_, _++_}
 use Prim.Native.Nat.{ℕ, zero, suc, _+_, _*_, _/_, _%_, _<_, _^_}
-use native.Mathlib.Nat.{mod-lt, lt-of-le-of-lt, le-of-lt, mul-le-mul-left, mul-lt-mul-of-pos-right}
+use native.Mathlib.Nat.{mod-lt, suc-ne-zero, le-of-suc-le-suc, not-suc-le-zero, lt-of-le-of-lt, le-of-lt, mul-le-mul-left, mul-lt-mul-of-pos-right}
+use native.Mathlib.Numerals.{add-one}
 use native.Mathlib.Omega.{arith}
 use lib.Bits.{xor-lt}
 use lib.Dec.{lit<}
 use lib.Pow.{pow-add, pow-pos}
-use lib.ListN.{length, getD, drop}
+use lib.ListN.{length, getD, drop, length-append}
 use Rattle.words.specs.Word.{_⊕_, _+₃₂_, word, b0, b1, b2, b3}
-use Rattle.words.specs.Strings.{wordAt, bytesOf, bytesUp}
+use Rattle.words.specs.Strings.{wordAt, fourAt, bytesOf, bytesUp}
 use Rattle.words.specs.Lists.{All, none, more, tab, shifted, iter, Byte, Word}
 
 pub xor-word : {a b : ℕ} → Word a → Word b → Word (a ⊕ b)
@@ -54,9 +55,15 @@ module _ {P : ℕ → Type 0} where
   unfolding shifted
   all-shifted h p = all-append (all-drop 1 h) (more p none)
 
-  pub all-tab : (n : ℕ) (f : ℕ → ℕ) → ((i : ℕ) → P (f i)) → All P (tab n f)
+  pub all-tab : (n : ℕ) (f : ℕ → ℕ) → ((i : ℕ) → i < n → P (f i)) → All P (tab n f)
   all-tab zero f h = none
-  all-tab (suc n) f h = more (h zero) (all-tab n (λ i. f (suc i)) (λ i. h (suc i)))
+  all-tab (suc n) f h = more (h zero (omega arith)) (all-tab n (λ i. f (suc i)) (λ i q. h (suc i) (omega arith)))
+
+  -- an element
+  pub all-in : {a : List ℕ} → All P a → (i : ℕ) → i < length a → P (getD a i 0)
+  all-in none i q = absurd (not-suc-le-zero q)
+  all-in (more p h) zero q = p
+  all-in (more p h) (suc i) q = all-in h i (le-of-suc-le-suc q)
 
   -- an element, and the default beyond the last
   pub all-at : {a : List ℕ} → P zero → All P a → (i : ℕ) → P (getD a i 0)
@@ -68,6 +75,11 @@ module _ {P : ℕ → Type 0} where
   pub all-by : (a : List ℕ) → ((i : ℕ) → i < length a → P (getD a i 0)) → All P a
   all-by [] h = none
   all-by (x ∷ a) h = more (h zero (omega arith)) (all-by a (λ i q. h (suc i) (omega arith)))
+
+pub length-shifted : (n : ℕ) (a : List ℕ) (x : ℕ) → length a ≡ suc n → length (shifted a x) ≡ suc n
+unfolding shifted
+length-shifted n [] x e = absurd (suc-ne-zero n (sym e))
+length-shifted n (y ∷ a) x e = length-append a (x ∷ []) ∙ add-one (length a) ∙ e
 
 -- what a step keeps, steps keep
 pub iter-keeps : {A : Type 0} (Q : A → Type 0) (f : A → A) → ((y : A) → Q y → Q (f y)) → (n : ℕ) (x : A) → Q x → Q (iter n f x)
@@ -84,3 +96,7 @@ at-word h i = all-at (lit< tt) h i
 pub wordAt-word : {s : List ℕ} → All Byte s → (i : ℕ) → Word (wordAt s i)
 unfolding wordAt
 wordAt-word h i = join-word (at-byte h i) (at-byte h (i + 1)) (at-byte h (i + 2)) (at-byte h (i + 3))
+
+pub fourAt-words : {s : List ℕ} → All Byte s → (i : ℕ) → All Word (fourAt s i)
+unfolding fourAt
+fourAt-words h i = more (wordAt-word h i) (more (wordAt-word h (i + 4)) (more (wordAt-word h (i + 8)) (more (wordAt-word h (i + 12)) none)))

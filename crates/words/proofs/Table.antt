@@ -46,10 +46,16 @@ entries-by g f l t k h =
 pub entries : (f : ℕ → ℕ) (l : List ℕ) → T (every (is (λ x. x) f) 0 l) → (k : ℕ) → k < length l → getD l k 0 ≡ f k
 entries f l t k h = entries-by (λ x. x) f l t k h
 
--- each entry of l is below n
-abbrev pub under : ℕ → ℕ → ℕ → Bool
-under n k x = ltb x n
+-- what a test says of a number holds of each entry
+module _ (P : ℕ → Type 0) (t : ℕ → Bool) (says : (x : ℕ) → T (t x) → P x) where
+  go : (i : ℕ) (l : List ℕ) → T (every (λ k x. t x) i l) → All P l
+  go i [] h = none
+  go i (x ∷ l) h =
+      more (says x (both-left (t x) (every (λ k y. t y) (suc i) l) h)) (go (suc i) l (both-right (t x) (every (λ k y. t y) (suc i) l) h))
 
-pub all-under : (n i : ℕ) (l : List ℕ) → T (every (under n) i l) → All (λ x. x < n) l
-all-under n i [] t = none
-all-under n i (x ∷ l) t = more (ltb→lt x n (both-left (ltb x n) (every (under n) (suc i) l) t)) (all-under n (suc i) l (both-right (ltb x n) (every (under n) (suc i) l) t))
+  pub all-pass : (l : List ℕ) → T (every (λ k x. t x) 0 l) → All P l
+  all-pass l h = go 0 l h
+
+-- each entry is below n
+pub all-under : (n : ℕ) (l : List ℕ) → T (every (λ k x. ltb x n) 0 l) → All (λ x. x < n) l
+all-under n l h = all-pass (λ x. x < n) (λ x. ltb x n) (λ x. ltb→lt x n) l h
