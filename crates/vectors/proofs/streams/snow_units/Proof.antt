@@ -1,0 +1,17 @@
+-- `vectors::streams::snow_units` meets its contract: the loop counts up to units.
+-- Assumes nothing.
+use Prim.Native.Nat.{_-_, _≤_}
+use borrow.Author.Needs.{needs}
+use Rattle.vectors.proofs.streams.snow_units.Statement.{statement}
+use Rattle.vectors.proofs.streams.snow_units.Tie as tie
+
+abbrev Inv-loop : tie.InvT-loop
+Inv-loop a ai t units s₀ i₀ s i = i ≤ units
+
+abbrev μ-loop : tie.MeasureT-loop
+μ-loop a ai t units s₀ i₀ s i = units - i
+
+pub snow-units-spec : {M : Type 1} → statement M
+snow-units-spec =
+    tie.close (tie.spec Inv-loop μ-loop (search needs) (λ c κs. search needs) (λ c κs. search needs)
+    (λ c κs. search needs) (search needs) (search needs) (search needs) (λ c κs. search needs) (search needs))

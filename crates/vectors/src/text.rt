@@ -1,0 +1,91 @@
+// What the program prints: lines, hexadecimal words and bytes, and the time of a state.
+use libc::STDOUT_FILENO;
+
+pub fn put(s: &[u8]) {
+    io::write_all(STDOUT_FILENO, s);
+}
+
+pub fn end() {
+    put(b"\n");
+}
+
+pub fn line(s: &[u8]) {
+    put(s);
+    end();
+}
+
+// The clause that the next lines are from.
+pub fn heading(clause: &[u8]) {
+    put(b"\n");
+    line(clause);
+}
+
+// What the scan prints otherwise.
+pub fn remark(s: &[u8]) {
+    put(b"[");
+    put(s);
+    line(b"]");
+}
+
+pub fn word(w: u32) {
+    io::print_hex(STDOUT_FILENO, w as u64, 8);
+}
+
+// A space and a word.
+pub fn cell(w: u32) {
+    put(b" ");
+    word(w);
+}
+
+// A space and a word with its name.
+pub fn named(name: &[u8], w: u32) {
+    put(b" ");
+    put(name);
+    put(b":");
+    word(w);
+}
+
+// The time i - before.
+pub fn time(i: usize, before: usize) {
+    put(b"time ");
+    if i < before {
+        put(b"-");
+        io::print_decimal(STDOUT_FILENO, (before - i) as u64);
+    } else {
+        io::print_decimal(STDOUT_FILENO, (i - before) as u64);
+    }
+    end();
+}
+
+// The value of a hexadecimal digit, and 0 of any other byte.
+fn digit(c: u8) -> u8 {
+    if b'0' <= c && c <= b'9' {
+        return c - b'0';
+    }
+    if b'a' <= c && c <= b'f' {
+        return c - b'a' + 10;
+    }
+    0
+}
+
+// The byte of two hexadecimal digits.
+fn byte(a: u8, b: u8) -> u8 {
+    (digit(a) % 16) * 16 + digit(b) % 16
+}
+
+// Byte i of those that s spells, and 0 past the last.
+fn spelt(s: &[u8], i: usize) -> u8 {
+    if i < s.len() / 2 {
+        return byte(s[2 * i], s[2 * i + 1]);
+    }
+    0
+}
+
+// Fills out with the bytes that s spells.
+pub fn unhex(s: &[u8], out: &mut [u8]) {
+    let mut i: usize = 0;
+    while i < out.len() {
+        out[i] = spelt(s, i);
+        i += 1;
+    }
+}
