@@ -92,7 +92,9 @@ fn snow128() {
         7,
     );
     heading(b"C.2.2");
-    remark(b"the scan has 8ecacddb for 8ecaccdb, 6fbbfcbf for 6fbbfcfb at times -16 and -15, and fffffffc for ffffffff in 01 at time -26 and 00 at time -25");
+    remark(
+        b"the scan has 8ecacddb for 8ecaccdb, 6fbbfcbf for 6fbbfcfb at times -16 and -15, and fffffffc for ffffffff in 01 at time -26 and 00 at time -25",
+    );
     states::snow128();
 }
 
@@ -128,7 +130,9 @@ fn snow256() {
         8,
     );
     heading(b"C.3.2");
-    remark(b"the scan has 4bcdadab for 4bcddadb at times -12 to -5, 65abdcf1 for 65abcdf1 at time -10 and 2c05elf2 for 2c05e1f2 at time -3");
+    remark(
+        b"the scan has 4bcdadab for 4bcddadb at times -12 to -5, 65abdcf1 for 65abcdf1 at time -10 and 2c05elf2 for 2c05e1f2 at time -3",
+    );
     states::snow256();
 }
 
