@@ -1,0 +1,254 @@
+-- Parts of a crypt and how they join, for any generator: a part within a unit, a part that ends one, and a part after another, as `&mut out[at..]` lends it and
+-- it comes back. A loop's invariant is `Running`, which is `Did` of the bytes so far.
+-- Assumes nothing.
+use Prim.Native.Nat.{ℕ, zero, suc, _+_, _-_, _*_, _/_, _%_, _<_, _≤_, min}
+use mathlib.Core.Path.{_≡_, refl, ap, sym, _∙_, subst}
+use mathlib.Core.List.{List, [], _++_, append-nil}
+use lib.ListN.{length, getD, take, drop, length-drop, take-append-drop}
+use lib.Seq.{length-take-le, drop-at, take-at, take-all, take-length, drop-length}
+use borrow.Rule.Slice.PartMut.{putMid, postOf, post-is}
+use native.Mathlib.Omega.{arith}
+use native.Mathlib.Nat.{add-zero, zero-add, add-mod, zero-mod, div-add-mod', add-mul-div-right, mod-add-mod, add-mod-mod, mod-self, mod-eq-of-lt, div-eq-of-lt, div-self}
+use Rattle.words.specs.Lists.{iter}
+use Rattle.keystream.specs.Stream.{Gen, stateAt, byteAt, xorFrom, Did}
+use Rattle.keystream.proofs.Laws.{xorFrom-length, xorFrom-agree, stateAt-here, stateAt-suc, stateAt-rebase, byteAt-rebase, div-mono, fill-part, fill-length}
+
+-- ---- a part that goes to the end
+
+pub tail-part : (a : ℕ) (xs : List ℕ) → take (length xs - a) (drop a xs) ≡ drop a xs
+tail-part a xs = take-all (length xs - a) (drop a xs) (omega (arith, length-drop a xs))
+
+pub tail-length : (a : ℕ) (xs : List ℕ) → length (take (length xs - a) (drop a xs)) ≡ length xs - a
+tail-length a xs = ap length (tail-part a xs) ∙ length-drop a xs
+
+pub put-tail : (a : ℕ) (xs ys : List ℕ) → a ≤ length xs → putMid a (length xs - a) xs ys ≡ take a xs ++ ys
+put-tail a xs ys h =
+    let e : postOf a (length xs - a) xs ≡ [] = post-is a (length xs) xs h ∙ drop-length xs in
+    ap (λ (t : List ℕ). take a xs ++ (ys ++ t)) e ∙ ap (λ (t : List ℕ). take a xs ++ t) (append-nil ys)
+
+module _ {S : Type 0} (g : Gen S) (pos : zero < g .unit) where
+  -- ---- places in a unit and positions in a line
+
+  carry : (p i : ℕ) → (p % g .unit + i) / g .unit + p / g .unit ≡ (p + i) / g .unit
+  carry p i =
+      let e : p % g .unit + i + p / g .unit * g .unit ≡ p + i = omega (arith, div-add-mod' p (g .unit)) in
+      sym (add-mul-div-right (p % g .unit + i) (p / g .unit) pos) ∙ ap (λ (x : ℕ). x / g .unit) e
+
+  -- a line at the position n, seen from the start of the unit that n is in
+  pub stateAt-place : (s : S) (n i : ℕ) → stateAt g s (n / g .unit) ((n + i) / g .unit) ≡ stateAt g s 0 ((n % g .unit + i) / g .unit)
+  unfolding stateAt
+  stateAt-place s n i =
+      let e : (n + i) / g .unit - n / g .unit ≡ (n % g .unit + i) / g .unit - 0 = omega (arith, carry n i) in
+      ap (λ (x : ℕ). iter x (g .next) s) e
+
+  pub byteAt-place : (s : S) (n i : ℕ) → byteAt g s (n / g .unit) (n + i) ≡ byteAt g s 0 (n % g .unit + i)
+  unfolding byteAt
+  byteAt-place s n i =
+      ap (λ (t : S). getD (g .strm t) ((n + i) % g .unit) 0) (stateAt-place s n i)
+      ∙ ap (λ (k : ℕ). getD (g .strm (stateAt g s 0 ((n % g .unit + i) / g .unit))) k 0) (sym (mod-add-mod n (g .unit) i))
+
+  pub xorFrom-place : (s : S) (n : ℕ) (l : List ℕ) → xorFrom (byteAt g s (n / g .unit)) n l ≡ xorFrom (byteAt g s 0) (n % g .unit) l
+  xorFrom-place s n l = xorFrom-agree (byteAt g s (n / g .unit)) (byteAt g s 0) n (n % g .unit) l (λ i q. byteAt-place s n i)
+
+  -- what a crypt from a place of the unit of s on does, for a line whose position is n
+  pub at-position : (s s' : S) (n k : ℕ) (text out out' : List ℕ)
+      → (s' ≡ stateAt g s 0 ((n % g .unit + k) / g .unit)) × (out' ≡ xorFrom (byteAt g s 0) (n % g .unit) text ++ out)
+      → (s' ≡ stateAt g s (n / g .unit) ((n + k) / g .unit)) × (out' ≡ xorFrom (byteAt g s (n / g .unit)) n text ++ out)
+  at-position s s' n k text out out' h =
+      (h .0 ∙ sym (stateAt-place s n k), h .1 ∙ ap (λ (x : List ℕ). x ++ out) (sym (xorFrom-place s n text)))
+
+  -- from the state on the way
+  state-on : (s : S) (p i : ℕ) → stateAt g (stateAt g s 0 (p / g .unit)) 0 ((p % g .unit + i) / g .unit) ≡ stateAt g s 0 ((p + i) / g .unit)
+  state-on s p i =
+      sym (stateAt-place (stateAt g s 0 (p / g .unit)) p i)
+      ∙ stateAt-rebase g pos s 0 (p / g .unit) ((p + i) / g .unit) (omega arith) (div-mono (g .unit) pos p (p + i) (omega arith))
+
+  bytes-on : (s : S) (p : ℕ) (l : List ℕ) → xorFrom (byteAt g (stateAt g s 0 (p / g .unit)) 0) (p % g .unit) l ≡ xorFrom (byteAt g s 0) p l
+  bytes-on s p l =
+      sym (xorFrom-place (stateAt g s 0 (p / g .unit)) p l)
+      ∙ xorFrom-agree (byteAt g (stateAt g s 0 (p / g .unit)) (p / g .unit)) (byteAt g s 0) p p l
+      (λ i q. byteAt-rebase g pos s 0 (p / g .unit) (p + i) (omega arith) (div-mono (g .unit) pos p (p + i) (omega arith)))
+
+  -- ---- pieces
+
+  pub did-length : {n k : ℕ} {s s' : S} {text out out' : List ℕ} → k ≤ length text → k ≤ length out → Did g n s k text out s' out' → length out' ≡ length out
+  did-length {n} {k} {s} {text = text} {out} h q d = ap length (d .out-is) ∙ fill-length (byteAt g s 0) n k text out h q
+
+  pub did-none : {n : ℕ} {s : S} {text out : List ℕ} → n < g .unit → Did g n s 0 text out s out
+  unfolding xorFrom
+  did-none {n} {s} h =
+      record {
+        state-is = sym (ap (λ (k : ℕ). stateAt g s 0 (k / g .unit)) (add-zero n) ∙ ap (stateAt g s 0) (div-eq-of-lt h) ∙ stateAt-here g pos s 0);
+        out-is = refl;
+      }
+
+  byte-small : (s : S) (j : ℕ) → j < g .unit → byteAt g s 0 j ≡ getD (g .strm s) j 0
+  unfolding byteAt
+  byte-small s j q =
+      ap (λ (k : ℕ). getD (g .strm (stateAt g s 0 k)) (j % g .unit) 0) (div-eq-of-lt q)
+      ∙ ap (λ (t : S). getD (g .strm t) (j % g .unit) 0) (stateAt-here g pos s 0)
+      ∙ ap (λ (k : ℕ). getD (g .strm s) k 0) (mod-eq-of-lt q)
+
+  -- a piece of one unit, whose bytes are those of f
+  module _ (n k : ℕ) (s : S) (text out out' : List ℕ) (f : ℕ → ℕ) (is-unit : (i : ℕ) → i < g .unit → f i ≡ getD (g .strm s) i 0)
+      (fits : k ≤ length text) (written : out' ≡ xorFrom f n (take k text) ++ drop k out) where
+    within : n + k ≤ g .unit → out' ≡ xorFrom (byteAt g s 0) n (take k text) ++ drop k out
+    within h =
+        let l : length (take k text) ≡ k = length-take-le k text fits in
+        written
+        ∙ ap (λ (x : List ℕ). x ++ drop k out)
+        (xorFrom-agree f (byteAt g s 0) n n (take k text)
+        (λ i p. is-unit (n + i) (omega arith) ∙ sym (byte-small s (n + i) (omega arith))))
+
+    -- the unit is used up, and the state is the next one
+    pub did-end : {s' : S} → n + k ≡ g .unit → s' ≡ g .next s → Did g n s k text out s' out'
+    did-end h e =
+        let one : (n + k) / g .unit ≡ 1 = ap (λ (x : ℕ). x / g .unit) h ∙ div-self pos in
+        record {
+          state-is =
+              e
+              ∙ sym (ap (stateAt g s 0) one ∙ stateAt-suc g pos s 0 0 (omega arith) ∙ ap (g .next) (stateAt-here g pos s 0));
+          out-is = within (omega arith);
+        }
+
+    -- the text ends within the unit, and the state stays
+    pub did-within : n + k < g .unit → Did g n s k text out s out'
+    did-within h =
+        record {
+          state-is = sym (ap (stateAt g s 0) (div-eq-of-lt h) ∙ stateAt-here g pos s 0);
+          out-is = within (omega arith);
+        }
+
+  -- a piece, and one more from where it ended, which wrote the buffer's rest
+  module _ {n a b from : ℕ} {s s1 s2 : S} {text out o1 o2 : List ℕ} where
+    pub did-more : a + b ≤ length text → a + b ≤ length out → (n + a) % g .unit ≡ from → Did g n s a text out s1 o1
+        → Did g from s1 b (drop a text) (drop a o1) s2 o2 → Did g n s (a + b) text out s2 (take a o1 ++ o2)
+    did-more h q e d d' =
+        let F = byteAt g s 0 in
+        let X = xorFrom F n (take a text) in
+        let lx : length X ≡ a = xorFrom-length F n (take a text) ∙ length-take-le a text (omega arith) in
+        let ta : take a o1 ≡ X = ap (take a) (d .out-is) ∙ take-at X (drop a out) a lx in
+        let da : drop a o1 ≡ drop a out = ap (drop a) (d .out-is) ∙ drop-at X (drop a out) a lx in
+        let sum : n + a + b ≡ n + (a + b) = omega arith in
+        record {
+          state-is =
+              d' .state-is
+              ∙ ap (λ (t : S). stateAt g t 0 ((from + b) / g .unit)) (d .state-is)
+              ∙ ap (λ (x : ℕ). stateAt g (stateAt g s 0 ((n + a) / g .unit)) 0 ((x + b) / g .unit)) (sym e)
+              ∙ state-on s (n + a) b
+              ∙ ap (λ (x : ℕ). stateAt g s 0 (x / g .unit)) sum;
+          out-is =
+              ap (λ (x : List ℕ). x ++ o2) ta
+              ∙ ap (λ (x : List ℕ). X ++ x)
+              (d' .out-is
+              ∙ ap (λ (t : S). xorFrom (byteAt g t 0) from (take b (drop a text)) ++ drop b (drop a o1)) (d .state-is)
+              ∙ ap (λ (x : ℕ). xorFrom (byteAt g (stateAt g s 0 ((n + a) / g .unit)) 0) x (take b (drop a text)) ++ drop b (drop a o1)) (sym e)
+              ∙ ap (λ (x : List ℕ). x ++ drop b (drop a o1)) (bytes-on s (n + a) (take b (drop a text)))
+              ∙ ap (λ (x : List ℕ). xorFrom F (n + a) (take b (drop a text)) ++ drop b x) da)
+              ∙ fill-part F n a b text out h q;
+        }
+
+    -- the same, with the parts as the code lends them: `&text[a..]`, and `&mut out[a..]`, which comes back
+    pub did-lent : a + b ≤ length text → a + b ≤ length out → (n + a) % g .unit ≡ from → Did g n s a text out s1 o1
+        → Did g from s1 b (take (length text - a) (drop a text)) (take (length o1 - a) (drop a o1)) s2 o2
+        → Did g n s (a + b) text out s2 (putMid a (length o1 - a) o1 o2)
+    did-lent h q e d d' =
+        let l : length o1 ≡ length out = did-length (omega arith) (omega arith) d in
+        subst (λ (o : List ℕ). Did g n s (a + b) text out s2 o) (sym (put-tail a o1 o2 (omega arith)))
+        (did-more h q e d (rw (tail-part a text, tail-part a o1) at d'))
+
+-- ---- the crypt loop, with the unit as the code has it
+
+-- after whole units of text, from the start of a unit on
+pub record Running {S : Type 0} (g : Gen S) (u : ℕ) (s : S) (text out₀ out : List ℕ) (cur : S) (at : ℕ) : Type 0 where
+  pub at-most : at ≤ length text
+  pub whole : at % u ≡ 0
+  pub same-length : length out ≡ length out₀
+  pub did : Did g 0 s at text out₀ cur out
+
+module _ {S : Type 0} (g : Gen S) (u : ℕ) (pos : zero < u) (unit-is : g .unit ≡ u) where
+  unit-pos : zero < g .unit
+  unit-pos = omega arith
+
+  aligned : (x : ℕ) → x % u ≡ 0 → x % g .unit ≡ 0
+  aligned x h = ap (λ (v : ℕ). x % v) unit-is ∙ h
+
+  module _ {s : S} {text out₀ : List ℕ} (fits : length text ≤ length out₀) where
+    pub running-start : Running g u s text out₀ out₀ s 0
+    running-start = record { at-most = omega arith; whole = zero-mod u; same-length = refl; did = did-none g unit-pos unit-pos }
+
+    -- a turn of k bytes, which are whole units
+    pub running-turn : {out o' : List ℕ} {cur cur' : S} {at : ℕ} (k : ℕ) → k % u ≡ 0 → Running g u s text out₀ out cur at → at + k ≤ length text
+        → Did g 0 cur k (take (length text - at) (drop at text)) (take (length out - at) (drop at out)) cur' o'
+        → Running g u s text out₀ (putMid at (length out - at) out o') cur' (at + k)
+    running-turn {at = at} k h r q d =
+        let all = did-lent g unit-pos q (omega arith) (aligned (0 + at) (ap (λ (x : ℕ). x % u) (zero-add at) ∙ r .whole)) (r .did) d in
+        record {
+          at-most = q;
+          whole = add-mod at k u ∙ ap (λ (x : ℕ). (x + k % u) % u) (r .whole) ∙ ap (λ (x : ℕ). (0 + x) % u) h ∙ zero-mod u;
+          same-length = did-length g unit-pos (omega arith) (omega arith) all;
+          did = all;
+        }
+
+    -- the rest of the text
+    pub running-end : {out o' : List ℕ} {cur cur' : S} {at k : ℕ} → Running g u s text out₀ out cur at → k ≡ length text - at
+        → Did g 0 cur k (take (length text - at) (drop at text)) (take (length out - at) (drop at out)) cur' o'
+        → Did g 0 s (length text) text out₀ cur' (putMid at (length out - at) out o')
+    running-end {out} {o'} {cur' = cur'} {at} {k} r e d =
+        let m = r .at-most in
+        let sum : at + k ≡ length text = omega arith in
+        subst (λ (x : ℕ). Did g 0 s x text out₀ cur' (putMid at (length out - at) out o')) sum
+        (did-lent g unit-pos (omega arith) (omega arith) (aligned (0 + at) (ap (λ (x : ℕ). x % u) (zero-add at) ∙ r .whole)) (r .did) d)
+
+    -- the rest of a begun unit, as far as the text goes, and then the rest of the text
+    module _ {n head : ℕ} {s1 s2 : S} {o1 o2 : List ℕ} (n-most : n < u) (head-is : head ≡ min ((u - n) % u) (length text))
+        (first : Did g n s head text out₀ s1 o1) where
+      begun-by : (k : ℕ) → k ≡ length text - head → Did g 0 s1 k (take (length text - head) (drop head text)) (take (length o1 - head) (drop head o1)) s2 o2
+          → Did g n s (head + k) text out₀ s2 (putMid head (length o1 - head) o1 o2)
+      unfolding xorFrom
+      begun-by zero e d =
+          let l : length o1 ≡ length out₀ = did-length g unit-pos (omega arith) (omega arith) first in
+          let o : putMid head (length o1 - head) o1 o2 ≡ o1 =
+          put-tail head o1 o2 (omega arith) ∙ ap (λ (x : List ℕ). take head o1 ++ x) (d .out-is ∙ tail-part head o1) ∙ take-append-drop head o1 in
+          let none = did-none g unit-pos {n = 0} {s = s1} {text = text} {out = out₀} unit-pos in
+          rw (o, d .state-is ∙ sym (none .state-is), add-zero head) first
+      begun-by (suc k) e d =
+          let full : head ≡ (u - n) % u = omega arith in
+          let end : n + (u - n) ≡ u = omega arith in
+          did-lent g unit-pos (omega arith) (omega arith)
+          (aligned (n + head) (ap (λ (x : ℕ). (n + x) % u) full ∙ add-mod-mod n (u - n) u ∙ ap (λ (x : ℕ). x % u) end ∙ mod-self u)) first d
+
+      pub begun : {k : ℕ} → k ≡ length text - head → Did g 0 s1 k (take (length text - head) (drop head text)) (take (length o1 - head) (drop head o1)) s2 o2
+          → Did g n s (length text) text out₀ s2 (putMid head (length o1 - head) o1 o2)
+      begun {k} e d =
+          let sum : head + k ≡ length text = omega arith in
+          subst (λ (x : ℕ). Did g n s x text out₀ s2 (putMid head (length o1 - head) o1 o2)) sum (begun-by k e d)
+
+    -- all of the text, as two equations
+    pub crypted : {n : ℕ} {s' : S} {out : List ℕ} → Did g n s (length text) text out₀ s' out
+        → (s' ≡ stateAt g s 0 ((n + length text) / u)) × (out ≡ xorFrom (byteAt g s 0) n text ++ drop (length text) out₀)
+    crypted {n} d = (
+      d .state-is ∙ ap (λ (v : ℕ). stateAt g s 0 ((n + length text) / v)) unit-is,
+      d .out-is ∙ ap (λ (t : List ℕ). xorFrom (byteAt g s 0) n t ++ drop (length text) out₀) (take-length text),
+    )
+
+-- ---- two generators that show the same stream
+
+-- where f takes the states of g to those of h, it takes g's line to h's
+module _ {S T : Type 0} (g : Gen S) (h : Gen T) (f : S → T) (same-unit : g .unit ≡ h .unit) (same-next : (s : S) → f (g .next s) ≡ h .next (f s))
+    (same-strm : (s : S) → g .strm s ≡ h .strm (f s)) where
+  iter-along : (k : ℕ) (s : S) → f (iter k (g .next) s) ≡ iter k (h .next) (f s)
+  unfolding iter
+  iter-along zero s = refl
+  iter-along (suc k) s = same-next (iter k (g .next) s) ∙ ap (h .next) (iter-along k s)
+
+  pub stateAt-along : (s : S) (m i : ℕ) → f (stateAt g s m i) ≡ stateAt h (f s) m i
+  unfolding stateAt
+  stateAt-along s m i = iter-along (i - m) s
+
+  pub byteAt-along : (s : S) (m j : ℕ) → byteAt g s m j ≡ byteAt h (f s) m j
+  unfolding byteAt
+  byteAt-along s m j =
+      ap (λ (u : ℕ). getD (g .strm (stateAt g s m (j / u))) (j % u) 0) same-unit
+      ∙ ap (λ (l : List ℕ). getD l (j % h .unit) 0) (same-strm (stateAt g s m (j / h .unit)))
+      ∙ ap (λ (t : T). getD (h .strm t) (j % h .unit) 0) (stateAt-along s m (j / h .unit))

@@ -1,0 +1,33 @@
+-- `writer::put_word` meets its contract: the bytes of the exclusive or of two words are the exclusive ors of their bytes.
+-- Assumes nothing.
+use lib.ListN.{length-set}
+use native.Mathlib.Omega.{arith}
+use Rattle.writer.proofs.Stores.{word-stores}
+use borrow.Author.Needs.{needs}
+use Rattle.writer.proofs.put_word.Statement.{statement}
+use Rattle.writer.proofs.put_word.Tie as tie
+
+slice-write-out-2 : tie.Need-slice-write-out-2
+slice-write-out-2 c = simp length-set (omega arith)
+
+slice-write-out-3 : tie.Need-slice-write-out-3
+slice-write-out-3 c = simp length-set (omega arith)
+
+slice-write-out-4 : tie.Need-slice-write-out-4
+slice-write-out-4 c = simp length-set (omega arith)
+
+returns : tie.Need-returns
+returns c =
+    let p3 = c .before .before in
+    let p2 = p3 .before .before in
+    let p1 = p2 .before .before in
+    let a = p1 .before .before .before .before .args in
+    word-stores (a .w) (p1 .wide .result) (p2 .wide2 .result) (p3 .wide3 .result) (c .wide4 .result) (a .text .now) (a .out .now) (omega arith) (omega arith)
+    (p1 .wide .ensures) (p2 .wide2 .ensures) (p3 .wide3 .ensures) (c .wide4 .ensures)
+
+pub put-word-spec : {M : Type 1} → statement M
+put-word-spec =
+    tie.close (tie.spec (search needs) (λ c κs. search needs) (search needs) (λ c κs. search needs) (search needs)
+    (λ c κs. search needs) (search needs) (λ c κs. search needs) (search needs) (search needs) (search needs)
+    (search needs) (search needs) (search needs) (search needs) (search needs) (search needs) slice-write-out-2
+    (search needs) slice-write-out-3 (search needs) slice-write-out-4 (search needs) returns)
