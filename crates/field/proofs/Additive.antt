@@ -12,7 +12,8 @@ use lib.Dec.{lit<, eqb, eqb→eq, T}
 use lib.Pow.{pow-pos, split, shr-lt}
 use Rattle.words.specs.Word.{_⊕_, word, b0, b1, b2, b3}
 use Rattle.words.specs.Lists.{Byte}
-use Rattle.words.proofs.Table.{both, both-left, both-right}
+use Rattle.words.specs.Tests.{both}
+use Rattle.words.proofs.Table.{both-left, both-right}
 use Rattle.words.proofs.Ranges.{byte-of}
 use Rattle.words.proofs.Xor.{xor-swap, word-xor}
 use Rattle.field.specs.Gf8.{ifOne, timesX, mulDigits, mul8}

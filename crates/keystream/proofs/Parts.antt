@@ -234,21 +234,23 @@ module _ {S : Type 0} (g : Gen S) (u : ℕ) (pos : zero < u) (unit-is : g .unit 
 
 -- ---- two generators that show the same stream
 
--- where f takes the states of g to those of h, it takes g's line to h's
-module _ {S T : Type 0} (g : Gen S) (h : Gen T) (f : S → T) (same-unit : g .unit ≡ h .unit) (same-next : (s : S) → f (g .next s) ≡ h .next (f s))
-    (same-strm : (s : S) → g .strm s ≡ h .strm (f s)) where
-  iter-along : (k : ℕ) (s : S) → f (iter k (g .next) s) ≡ iter k (h .next) (f s)
+-- where f takes the states of g that hold P to those of h, it takes a line of g to the line of h with the same bytes
+module _ {S T : Type 0} (g : Gen S) (h : Gen T) (f : S → T) (P : S → Type 0) (keeps : (s : S) → P s → P (g .next s))
+    (same-unit : g .unit ≡ h .unit) (same-next : (s : S) → P s → f (g .next s) ≡ h .next (f s)) (same-strm : (s : S) → P s → g .strm s ≡ h .strm (f s)) where
+  iter-along : (k : ℕ) (s : S) → P s → P (iter k (g .next) s) × (f (iter k (g .next) s) ≡ iter k (h .next) (f s))
   unfolding iter
-  iter-along zero s = refl
-  iter-along (suc k) s = same-next (iter k (g .next) s) ∙ ap (h .next) (iter-along k s)
+  iter-along zero s p = (p, refl)
+  iter-along (suc k) s p =
+      let a = iter-along k s p in
+      (keeps (iter k (g .next) s) (a .0), same-next (iter k (g .next) s) (a .0) ∙ ap (h .next) (a .1))
 
-  pub stateAt-along : (s : S) (m i : ℕ) → f (stateAt g s m i) ≡ stateAt h (f s) m i
+  pub stateAt-along : (s : S) (m i : ℕ) → P s → f (stateAt g s m i) ≡ stateAt h (f s) m i
   unfolding stateAt
-  stateAt-along s m i = iter-along (i - m) s
+  stateAt-along s m i p = iter-along (i - m) s p .1
 
-  pub byteAt-along : (s : S) (m j : ℕ) → byteAt g s m j ≡ byteAt h (f s) m j
-  unfolding byteAt
-  byteAt-along s m j =
+  pub byteAt-along : (s : S) (m j : ℕ) → P s → byteAt g s m j ≡ byteAt h (f s) m j
+  unfolding byteAt stateAt
+  byteAt-along s m j p =
       ap (λ (u : ℕ). getD (g .strm (stateAt g s m (j / u))) (j % u) 0) same-unit
-      ∙ ap (λ (l : List ℕ). getD l (j % h .unit) 0) (same-strm (stateAt g s m (j / h .unit)))
-      ∙ ap (λ (t : T). getD (h .strm t) (j % h .unit) 0) (stateAt-along s m (j / h .unit))
+      ∙ ap (λ (l : List ℕ). getD l (j % h .unit) 0) (same-strm (stateAt g s m (j / h .unit)) (iter-along (j / h .unit - m) s p .0))
+      ∙ ap (λ (t : T). getD (h .strm t) (j % h .unit) 0) (stateAt-along s m (j / h .unit) p)

@@ -9,10 +9,7 @@ use native.Mathlib.Nat.{add-zero, zero-add, add-suc, suc-add, le-of-suc-le-suc, 
 use lib.Dec.{T, eqb, eqb→eq, ltb, ltb→lt}
 use lib.ListN.{length, getD}
 use Rattle.words.specs.Lists.{All, none, more}
-
-abbrev pub both : Bool → Bool → Bool
-both true b = b
-both false b = false
+use Rattle.words.specs.Tests.{both}
 
 pub both-left : (a b : Bool) → T (both a b) → T a
 both-left true b t = tt

@@ -1,3 +1,4 @@
 pub mod Word
 pub mod Strings
 pub mod Lists
+pub mod Tests

@@ -11,7 +11,8 @@ use lib.ListN.{length, getD}
 use Rattle.words.specs.Word.{b0, b1, b2, b3}
 use Rattle.words.specs.Strings.{bytesOf}
 use Rattle.words.specs.Lists.{All, Byte, Word, tab}
-use Rattle.words.proofs.Table.{both, both-left, both-right, all-pass, all-under}
+use Rattle.words.specs.Tests.{both}
+use Rattle.words.proofs.Table.{both-left, both-right, all-pass, all-under}
 use Rattle.words.proofs.Ranges.{at-byte, all-in, all-tab, all-shifted, length-shifted, iter-keeps, join-word, bytesOf-bytes}
 use Rattle.zuc.specs.Tables.{sub1, sub2, d}
 use Rattle.zuc.specs.Cipher.{ss, nextR1, nextR2, w, v, weighed, mended, fed, fedInit, clocked, next, nextInit, strm, loaded, loadedCell, init, unit, u}

@@ -1,0 +1,3 @@
+pub mod Tests
+pub mod States
+pub mod Sound

@@ -1,0 +1,15 @@
+-- A state that a line can reach: twenty words, of which the cipher admits what it restricts.
+-- Assumes nothing.
+use mathlib.Core.Path.{_≡_}
+use mathlib.Core.Bool.{true}
+use mathlib.Core.List.{List}
+use Prim.Native.Nat.{ℕ}
+use lib.ListN.{length}
+use Rattle.words.specs.Lists.{All, Word}
+use Rattle.ciphers.specs.States.{stateWords}
+use Rattle.ciphers.specs.Table.{Cipher}
+
+pub record Fit (c : Cipher) (w : List ℕ) : Type 0 where
+  pub twenty : length w ≡ stateWords
+  pub words : All Word w
+  pub admitted : c .admits w ≡ true

@@ -1,0 +1,45 @@
+-- A state as its bytes in an image, read as twenty big-endian words (document 01, "Words and streams"): ZUC A0..A15, R1, R2; Rabbit X0..X7, C0..C7 and the carry byte, which is the
+-- top byte of word 16; SNOW 2.0 s0..s15, R1, R2; KCipher-2 A0..A4, B0..B10, R1, L1, R2, L2; zeros after them.
+-- Assumes nothing.
+use mathlib.Core.List.{List, [], _∷_, _++_}
+use Prim.Native.Nat.{ℕ, _*_, _/_, _^_}
+use lib.ListN.{getD, take, drop}
+use Rattle.zuc.specs.declared.Zuc.{Zuc}
+use Rattle.rabbit.specs.declared.Rabbit.{Rabbit}
+use Rattle.snow2.specs.declared.Snow2.{Snow2}
+use Rattle.kcipher2.specs.declared.Kcipher2.{Kcipher2}
+
+-- how many words a state has
+abbrev pub stateWords : ℕ
+stateWords = 20
+
+unfoldable pub zucWords : Zuc → List ℕ
+zucWords s = s .a ++ (s .r1 ∷ s .r2 ∷ 0 ∷ 0 ∷ [])
+
+unfoldable pub zucState : List ℕ → Zuc
+zucState w = record { a = take 16 w; r1 = getD w 16 0; r2 = getD w 17 0 }
+
+unfoldable pub rabbitWords : Rabbit → List ℕ
+rabbitWords s = s .x ++ (s .c ++ (s .b * 2 ^ 24 ∷ 0 ∷ 0 ∷ 0 ∷ []))
+
+unfoldable pub rabbitState : List ℕ → Rabbit
+rabbitState w = record { x = take 8 w; c = take 8 (drop 8 w); b = getD w 16 0 / 2 ^ 24 }
+
+unfoldable pub snow2Words : Snow2 → List ℕ
+snow2Words s = s .s ++ (s .r1 ∷ s .r2 ∷ 0 ∷ 0 ∷ [])
+
+unfoldable pub snow2State : List ℕ → Snow2
+snow2State w = record { s = take 16 w; r1 = getD w 16 0; r2 = getD w 17 0 }
+
+unfoldable pub kcipher2Words : Kcipher2 → List ℕ
+kcipher2Words s = s .a ++ (s .b ++ (s .r1 ∷ s .l1 ∷ s .r2 ∷ s .l2 ∷ []))
+
+unfoldable pub kcipher2State : List ℕ → Kcipher2
+kcipher2State w = record {
+  a = take 5 w;
+  b = take 11 (drop 5 w);
+  r1 = getD w 16 0;
+  l1 = getD w 17 0;
+  r2 = getD w 18 0;
+  l2 = getD w 19 0;
+}

@@ -1,0 +1,92 @@
+-- Document 01's table of ciphers, by number: key and IV bytes, unit, S(0), Next and Strm, and what number 8 asks of a state.
+-- Assumes nothing.
+use mathlib.Core.Bool.{Bool, true, false}
+use mathlib.Core.List.{List, [], _∷_}
+use Prim.Native.Nat.{ℕ, _-_, _^_}
+use lib.Dec.{leb, eqb}
+use lib.ListN.{getD, take}
+use Rattle.keystream.specs.Stream.{Gen}
+use Rattle.words.specs.Tests.{both, pick}
+use Rattle.zuc.specs.Cipher as Z
+use Rattle.rabbit.specs.Cipher as R
+use Rattle.snow2.specs.Cipher as S
+use Rattle.kcipher2.specs.Cipher as K
+use Rattle.ciphers.specs.States.{zucWords, zucState, rabbitWords, rabbitState, snow2Words, snow2State, kcipher2Words, kcipher2State}
+
+-- a cipher as a line holds it, with states as words
+pub record Cipher : Type 0 where
+  -- the bytes of its key and of its IV
+  pub key : ℕ
+  pub iv : ℕ
+  -- its unit u, Next and Strm
+  pub gen : Gen (List ℕ)
+  -- S(0) of a key and an IV of its lengths
+  pub init : List ℕ → List ℕ → List ℕ
+  -- whether a state is one that number 8 admits
+  pub admits : List ℕ → Bool
+
+-- each word from 1 to 2^31 - 1
+abbrev pub areCells : List ℕ → Bool
+areCells [] = true
+areCells (x ∷ l) = both (both (leb 1 x) (leb x (2 ^ 31 - 1))) (areCells l)
+
+-- the words from 18 on are padding
+abbrev pub twoSpare : List ℕ → Bool
+twoSpare w = both (eqb (getD w 18 0) 0) (eqb (getD w 19 0) 0)
+
+-- 1: ZUC. No cell is 0 or over 2^31 - 1.
+unfoldable pub zuc : Cipher
+zuc = record {
+  key = 16;
+  iv = 16;
+  gen = record { unit = Z.u; next = λ w. zucWords (Z.next (zucState w)); strm = λ w. Z.unit (zucState w) };
+  init = λ k iv. zucWords (Z.init k iv);
+  admits = λ w. both (areCells (take 16 w)) (twoSpare w);
+}
+
+-- 2: Rabbit. The carry is 0 or 1, and nothing but zeros comes after its byte.
+unfoldable pub rabbit : Cipher
+rabbit = record {
+  key = 16;
+  iv = 8;
+  gen = record { unit = R.u; next = λ w. rabbitWords (R.next (rabbitState w)); strm = λ w. R.unit (rabbitState w) };
+  init = λ k iv. rabbitWords (R.init k iv);
+  admits = λ w. both (pick (eqb (getD w 16 0) 0) true (eqb (getD w 16 0) (2 ^ 24))) (both (eqb (getD w 17 0) 0) (twoSpare w));
+}
+
+-- 3 and 4: SNOW 2.0, with a key of 16 bytes and of 32
+unfoldable pub snow128 : Cipher
+snow128 = record {
+  key = 16;
+  iv = 16;
+  gen = record { unit = S.u; next = λ w. snow2Words (S.next (snow2State w)); strm = λ w. S.unit (snow2State w) };
+  init = λ k iv. snow2Words (S.init128 k iv);
+  admits = twoSpare;
+}
+
+unfoldable pub snow256 : Cipher
+snow256 = record {
+  key = 32;
+  iv = 16;
+  gen = record { unit = S.u; next = λ w. snow2Words (S.next (snow2State w)); strm = λ w. S.unit (snow2State w) };
+  init = λ k iv. snow2Words (S.init256 k iv);
+  admits = twoSpare;
+}
+
+-- 5: KCipher-2
+unfoldable pub kcipher2 : Cipher
+kcipher2 = record {
+  key = 16;
+  iv = 16;
+  gen = record { unit = K.u; next = λ w. kcipher2Words (K.next (kcipher2State w)); strm = λ w. K.unit (kcipher2State w) };
+  init = λ k iv. kcipher2Words (K.init k iv);
+  admits = λ w. true;
+}
+
+-- the numbers that 4 and 8 admit
+abbrev pub isCipher : ℕ → Bool
+isCipher c = both (leb 1 c) (leb c 5)
+
+-- the cipher of a number; a line that is idle has none, and there the last stands
+unfoldable pub cipherAt : ℕ → Cipher
+cipherAt c = pick (eqb c 1) zuc (pick (eqb c 2) rabbit (pick (eqb c 3) snow128 (pick (eqb c 4) snow256 kcipher2)))
