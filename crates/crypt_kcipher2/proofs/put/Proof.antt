@@ -1,79 +1,42 @@
+-- `crypt_kcipher2::put` meets its contract: both ways write bytes of the two words of keystream, and eight bytes are the whole unit.
+-- Assumes nothing.
+use mathlib.Core.Path.{_≡_, ap, _∙_}
+use mathlib.Core.List.{List, _++_}
+use Prim.Native.Nat.{ℕ}
+use lib.ListN.{getD, take, drop}
+use native.Mathlib.Omega.{arith}
+use Rattle.words.specs.Strings.{bytesOf}
+use Rattle.keystream.specs.Stream.{xorFrom}
+use Rattle.kcipher2.specs.Cipher.{unit, strm}
 use borrow.Author.Needs.{needs}
 use Rattle.crypt_kcipher2.proofs.put.Statement.{statement}
 use Rattle.crypt_kcipher2.proofs.put.Tie as tie
-use Rattle.crypt_kcipher2.proofs.put.Reads as reads
-use Rattle.crypt_kcipher2.proofs.put.Lts as lts
-use Rattle.crypt_kcipher2.proofs.bytes8.Reads as bytes8-reads
-use Rattle.crypt_kcipher2.proofs.put_two.Reads as put-two-reads
-use Rattle.kcipher2.proofs.Kcipher2.output.Reads as output-reads
-use Rattle.writer.proofs.put_part.Reads as put-part-reads
 
--- src/lib.rt:37:13
-output-requires : tie.Need-output-requires
-output-requires c κs = search needs
-
--- src/lib.rt:39:17
-array-read-put-two : tie.Need-array-read-put-two
-array-read-put-two c = search needs
-
--- src/lib.rt:39:23
-array-read-put-two-2 : tie.Need-array-read-put-two-2
-array-read-put-two-2 c = search needs
-
--- src/lib.rt:39:9
-put-two-requires : tie.Need-put-two-requires
-put-two-requires c κs = search needs
-
--- src/lib.rt:41:25
-array-read-bytes8 : tie.Need-array-read-bytes8
-array-read-bytes8 c = search needs
-
--- src/lib.rt:41:31
-array-read-bytes8-2 : tie.Need-array-read-bytes8-2
-array-read-bytes8-2 c = search needs
-
--- src/lib.rt:41:18
-bytes8-requires : tie.Need-bytes8-requires
-bytes8-requires c κs = search needs
-
--- src/lib.rt:42:26
-slice-aggregate-put-part : tie.Need-slice-aggregate-put-part
-slice-aggregate-put-part c = search needs
-
--- src/lib.rt:42:9
-put-part-requires : tie.Need-put-part-requires
-put-part-requires c κs = search needs
-
--- src/lib.rt:33:1
-same-length : tie.Need-same-length
-same-length c = search needs
-
--- src/lib.rt:33:1
 returns : tie.Need-returns
-returns c = ?
+unfolding unit strm
+returns c =
+    let p = c .before .before in
+    let o = p .before .before .before in
+    let a = o .before .before .before .args in
+    let e : a .from ≡ 0 = omega arith in
+    rw (e, p .before .before .if1 .taken)
+    (p .put-two .ensures
+    ∙ ap (λ (z : List ℕ). xorFrom (λ j. getD (bytesOf (getD z 0 0) ++ bytesOf (getD z 1 0)) j 0) 0 (take 8 (a .text .now)) ++ drop 8 (a .out .now))
+    (o .output .ensures))
 
--- src/lib.rt:33:1
-same-length-2 : tie.Need-same-length-2
-same-length-2 c = search needs
-
--- src/lib.rt:33:1
 returns-2 : tie.Need-returns-2
-returns-2 c = ?
+unfolding unit strm
+returns-2 c =
+    let p = c .before .before in
+    let b = p .before .before .before in
+    let o = b .before .before in
+    let a = o .before .before .before .args in
+    p .put-part .ensures
+    ∙ ap (λ (ks : List ℕ). xorFrom (λ j. getD ks j 0) (a .from) (take (a .used) (a .text .now)) ++ drop (a .used) (a .out .now))
+    (b .bytes8 .ensures ∙ ap (λ (z : List ℕ). bytesOf (getD z 0 0) ++ bytesOf (getD z 1 0)) (o .output .ensures))
 
 pub put-spec : {M : Type 1} → statement M
 put-spec =
-    tie.close
-    (tie.spec
-    output-requires
-    array-read-put-two
-    array-read-put-two-2
-    put-two-requires
-    array-read-bytes8
-    array-read-bytes8-2
-    bytes8-requires
-    slice-aggregate-put-part
-    put-part-requires
-    same-length
-    returns
-    same-length-2
-    returns-2)
+    tie.close (tie.spec (λ c κs. search needs) (λ c. search needs) (λ c. search needs) (λ c κs. search needs)
+    (λ c. search needs) (λ c. search needs) (λ c κs. search needs) (λ c. search needs) (λ c κs. search needs)
+    (λ c. search needs) returns (λ c. search needs) returns-2)

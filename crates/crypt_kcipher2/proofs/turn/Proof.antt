@@ -1,40 +1,32 @@
+-- `crypt_kcipher2::turn` meets its contract: the bytes are those of one unit, which is used up or not.
+-- Assumes nothing.
+use mathlib.Core.Path.{refl}
+use lib.ListN.{getD}
+use native.Mathlib.Omega.{arith}
+use Rattle.keystream.proofs.Parts.{did-end, did-within}
+use Rattle.kcipher2.specs.Cipher.{unit}
+use Rattle.crypt_kcipher2.specs.Generator.{gen}
 use borrow.Author.Needs.{needs}
 use Rattle.crypt_kcipher2.proofs.turn.Statement.{statement}
 use Rattle.crypt_kcipher2.proofs.turn.Tie as tie
-use Rattle.crypt_kcipher2.proofs.turn.Reads as reads
-use Rattle.crypt_kcipher2.proofs.turn.Lts as lts
-use Rattle.crypt_kcipher2.proofs.put.Reads as put-reads
-use Rattle.kcipher2.proofs.Kcipher2.step.Reads as step-reads
 
--- src/lib.rt:63:5
-put-requires : tie.Need-put-requires
-put-requires c κs = search needs
-
--- src/lib.rt:64:8
-add-if1 : tie.Need-add-if1
-add-if1 c = search needs
-
--- src/lib.rt:65:9
-step-requires : tie.Need-step-requires
-step-requires c κs = search needs
-
--- src/lib.rt:47:1
-same-length : tie.Need-same-length
-same-length c = search needs
-
--- src/lib.rt:47:1
 returns : tie.Need-returns
-returns c = ?
+unfolding gen
+returns c =
+    let p = c .before .before .before .before in
+    let a = p .before .before .before .before .args in
+    did-end gen (omega arith) (a .from) (a .used) (a .st) (a .text .now) (a .out .now) _ (λ j. getD (unit (a .st)) j 0) (λ i h. refl)
+    (omega arith) (p .put .ensures) (c .before .if1 .taken) (c .step .ensures)
 
--- src/lib.rt:47:1
-same-length-2 : tie.Need-same-length-2
-same-length-2 c = search needs
-
--- src/lib.rt:47:1
 returns-2 : tie.Need-returns-2
-returns-2 c = ?
+unfolding gen
+returns-2 c =
+    let p = c .before .before .before in
+    let a = p .before .before .before .before .args in
+    did-within gen (omega arith) (a .from) (a .used) (a .st) (a .text .now) (a .out .now) _ (λ j. getD (unit (a .st)) j 0) (λ i h. refl)
+    (omega arith) (p .put .ensures) (omega (arith, c .if1 .left))
 
 pub turn-spec : {M : Type 1} → statement M
 turn-spec =
-    tie.close
-    (tie.spec put-requires add-if1 step-requires same-length returns same-length-2 returns-2)
+    tie.close (tie.spec (λ c κs. search needs) (λ c. search needs) (λ c κs. search needs) (λ c. search needs) returns
+    (λ c. search needs) returns-2)

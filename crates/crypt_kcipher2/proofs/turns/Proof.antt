@@ -1,104 +1,59 @@
+-- `crypt_kcipher2::turns` meets its contract. The loop's invariant: at bytes of the text are done, and the next byte is at place in its unit.
+-- Assumes nothing.
+use mathlib.Core.Path.{_≡_, refl, sym, subst}
+use Prim.Native.Nat.{ℕ, _+_, _-_, _%_, _^_, _<_, _≤_}
+use lib.ListN.{length}
+use native.Mathlib.Omega.{arith}
+use Rattle.keystream.specs.Stream.{Did}
+use Rattle.keystream.proofs.Parts.{did-none, did-lent, did-length}
+use Rattle.crypt_kcipher2.specs.Generator.{gen}
+use borrow.Author.Needs.{needs}
 use Rattle.crypt_kcipher2.proofs.turns.Statement.{statement}
 use Rattle.crypt_kcipher2.proofs.turns.Tie as tie
-use Rattle.crypt_kcipher2.proofs.turns.Reads as reads
-use Rattle.crypt_kcipher2.proofs.turns.Lts as lts
-use Rattle.crypt_kcipher2.proofs.turn.Reads as turn-reads
-use Rattle.writer.proofs.least.Reads as least-reads
 
 abbrev Inv-loop : tie.InvT-loop
-Inv-loop m0 m1 m2 m3 t from text out₀ count cur₀ place₀ at₀ out cur place at = ?
+Inv-loop m0 m1 m2 m3 t from text out₀ count cur₀ place₀ at₀ out cur place at =
+    (at ≤ count) × ((place ≡ (from + at) % 8) × ((length out ≡ length out₀) × Did gen from cur₀ at text out₀ cur out))
 
 abbrev μ-loop : tie.MeasureT-loop
-μ-loop m0 m1 m2 m3 t from text out₀ count cur₀ place₀ at₀ out cur place at = ?
+μ-loop m0 m1 m2 m3 t from text out₀ count cur₀ place₀ at₀ out cur place at = count - at
 
--- src/lib.rt:91:5
 loop-holds : tie.Need-loop-holds Inv-loop μ-loop
-loop-holds c = ?
+unfolding gen
+loop-holds c = (omega arith, (omega arith, (refl, did-none gen (omega arith) (omega arith))))
 
--- src/lib.rt:92:34
-sub-least : tie.Need-sub-least Inv-loop μ-loop
-sub-least c = ?
-
--- src/lib.rt:92:45
-sub-least-2 : tie.Need-sub-least-2 Inv-loop μ-loop
-sub-least-2 c = ?
-
--- src/lib.rt:92:13
-least-requires : tie.Need-least-requires Inv-loop μ-loop
-least-requires c κs = ?
-
--- src/lib.rt:93:57
-sub-turn : tie.Need-sub-turn Inv-loop μ-loop
-sub-turn c = ?
-
--- src/lib.rt:93:57
-part-turn-start : tie.Need-part-turn-start Inv-loop μ-loop
-part-turn-start c = ?
-
--- src/lib.rt:93:57
-part-turn-end : tie.Need-part-turn-end Inv-loop μ-loop
-part-turn-end c = ?
-
--- src/lib.rt:93:70
-sub-turn-2 : tie.Need-sub-turn-2 Inv-loop μ-loop
-sub-turn-2 c = ?
-
--- src/lib.rt:93:70
-part-turn-start-2 : tie.Need-part-turn-start-2 Inv-loop μ-loop
-part-turn-start-2 c = ?
-
--- src/lib.rt:93:70
-part-turn-end-2 : tie.Need-part-turn-end-2 Inv-loop μ-loop
-part-turn-end-2 c = ?
-
--- src/lib.rt:93:9
-turn-requires : tie.Need-turn-requires Inv-loop μ-loop
-turn-requires c κs = ?
-
--- src/lib.rt:94:18
-add-place : tie.Need-add-place Inv-loop μ-loop
-add-place c = ?
-
--- src/lib.rt:95:9
 add-at : tie.Need-add-at Inv-loop μ-loop
-add-at c = ?
+add-at c =
+    let u = c .before .before .before .before .before in
+    let l = u .before .before in
+    let k = l .before .before .before in
+    let short : length (k .args .text .now) < 2 ^ 64 = k .good .1 .1 .1 .1 .1 .1 .1 .0 .0 in
+    let sum : l .loop .at + u .least .result < 2 ^ 64 = omega (arith, short, l .loop .inv .0, u .least .ensures) in
+    record { fits = sum }
 
--- src/lib.rt:91:5
-loop-less : tie.Need-loop-less Inv-loop μ-loop
-loop-less c = ?
-
--- src/lib.rt:91:5
 loop-again : tie.Need-loop-again Inv-loop μ-loop
-loop-again c = ?
+unfolding gen
+loop-again c =
+    let p = c .before .before in
+    let l = p .before .before .before .before .before in
+    let i = l .loop .inv in
+    let k = l .before .before .before in
+    let u = p .before .before .before .least .result in
+    let more : l .loop .at + u ≤ length (k .args .text .now) = omega (arith, i .0, p .before .before .before .least .ensures) in
+    let all = did-lent gen (omega arith) more (omega (arith, more, k .pre .1 .1)) (sym (i .1 .0)) (i .1 .1 .1) (p .turn .ensures) in
+    (more, (omega (arith, i .1 .0), (did-length gen (omega arith) more (omega (arith, more, k .pre .1 .1)) all, all)))
 
--- src/lib.rt:72:1
-same-length : tie.Need-same-length Inv-loop μ-loop
-same-length c = ?
-
--- src/lib.rt:72:1
 returns : tie.Need-returns Inv-loop μ-loop
-returns c = ?
+unfolding gen
+returns c =
+    let l = c .before .loop in
+    let a = c .before .before .before .before .args in
+    let e : l .at ≡ length (a .text .now) = omega arith in
+    subst (λ (n : ℕ). Did gen (a .from) (a .st) n (a .text .now) (a .out .now) (l .cur) (l .out)) e (l .inv .1 .1 .1)
 
 pub turns-spec : {M : Type 1} → statement M
 turns-spec =
-    tie.close
-    (tie.spec
-    Inv-loop
-    μ-loop
-    loop-holds
-    sub-least
-    sub-least-2
-    least-requires
-    sub-turn
-    part-turn-start
-    part-turn-end
-    sub-turn-2
-    part-turn-start-2
-    part-turn-end-2
-    turn-requires
-    add-place
-    add-at
-    loop-less
-    loop-again
-    same-length
-    returns)
+    tie.close (tie.spec Inv-loop μ-loop loop-holds (λ c. search needs) (λ c. search needs) (λ c κs. search needs)
+    (λ c. search needs) (λ c. search needs) (λ c. search needs) (λ c. search needs) (λ c. search needs)
+    (λ c. search needs) (λ c κs. search needs) (λ c. search needs) add-at (λ c. search needs) loop-again
+    (λ c. search needs) returns)
