@@ -29,7 +29,7 @@ use Rattle.ciphers.proofs.Tests.{both-left, both-right, both-true}
 
 -- ---- parts of a list
 
-all-take : {P : ℕ → Type 0} (n : ℕ) {a : List ℕ} → All P a → All P (take n a)
+pub all-take : {P : ℕ → Type 0} (n : ℕ) {a : List ℕ} → All P a → All P (take n a)
 all-take zero h = none
 all-take (suc n) none = none
 all-take (suc n) (more p h) = more p (all-take n h)

@@ -17,7 +17,7 @@ use Rattle.command.specs.declared.Command.{Command}
 use Rattle.command.specs.declared.Command.the-variants.{Tray, Own, Crypt, Park, Resume, Close}
 use Rattle.command.specs.declared.Decoded.{Decoded}
 use Rattle.command.specs.declared.Decoded.the-variants.{Run, Refused}
-use Rattle.command.specs.Decode.{readOf, lengthOf, withCipher, openOf, cryptOf, refusedIf, commandOf, decodeOf}
+use Rattle.command.specs.Decode.{readOf, lengthOf, withCipher, openOf, cryptOf, refusedIf, commandOf, decodeOf, lineOf, kindOf, sizeOf}
 
 -- a known kind's command has at least two bytes
 known-or : (b : Bool) {n m : ℕ} → 2 ≤ n → (m ≡ 0) ⊎ (2 ≤ m) → (pick b n m ≡ 0) ⊎ (2 ≤ pick b n m)
@@ -31,23 +31,6 @@ two-bytes k h =
     (known-or (eqb k 1) (lit≤ tt)
     (known-or (eqb k 2) (lit≤ tt)
     (known-or (eqb k 3) (lit≤ tt) (known-or (eqb k 4) (lit≤ tt) (known-or (eqb k 5) (lit≤ tt) (known-or (eqb k 6) (lit≤ tt) (inl refl)))))))
-
--- the line that a command names, and its length
-abbrev pub lineOf : Command → ℕ
-lineOf (Tray i c k) = i
-lineOf (Own i c) = i
-lineOf (Crypt i n) = i
-lineOf (Park i) = i
-lineOf (Resume i) = i
-lineOf (Close i) = i
-
-abbrev pub sizeOf : Command → ℕ
-sizeOf (Tray i c k) = 20
-sizeOf (Own i c) = 51
-sizeOf (Crypt i n) = 4
-sizeOf (Park i) = 2
-sizeOf (Resume i) = 91
-sizeOf (Close i) = 2
 
 pub record Has (s : List ℕ) (c : Command) : Type 0 where
   pub line : lineOf c < 8
@@ -71,15 +54,12 @@ module _ (s : List ℕ) where
   in-cipher (Is c) f h = h c
   in-cipher Unknown f h = refused-in
 
-  -- the length of a known kind
-  long : (k n : ℕ) → lengthOf k ≤ length s → lengthOf k ≡ n → n ≤ length s
-  long k n h e = omega arith
-
   module _ (k : ℕ) (whole : lengthOf k ≤ length s) (known : eqb (lengthOf k) 0 ≡ false) (line : getD s 1 0 < 8) where
-    kind : (n m : ℕ) → eqb k n ≡ true → lengthOf n ≡ m → m ≤ length s
-    kind n m e l = long k m whole (ap lengthOf (eqb-true k n e) ∙ l)
+    -- the bytes of a command whose kind is n
+    kind : (n : ℕ) → eqb k n ≡ true → lengthOf n ≤ length s
+    kind n e = subst (λ (x : ℕ). lengthOf x ≤ length s) (eqb-true k n e) whole
 
-    in-open : (eqb k 1 ≡ true → 20 ≤ length s) → (eqb k 1 ≡ false → 51 ≤ length s) → ReadIn s (openOf k s)
+    in-open : (eqb k 1 ≡ true → lengthOf 1 ≤ length s) → (eqb k 1 ≡ false → lengthOf 2 ≤ length s) → ReadIn s (openOf k s)
     unfolding openOf
     in-open t o =
         in-cipher (readOf (getD s 2 0)) _
@@ -88,12 +68,12 @@ module _ (s : List ℕ) where
         (λ e. run-in (record { line = line; named = refl; whole = o e })))
 
     -- the one kind that is left
-    last : eqb k 1 ≡ false → eqb k 2 ≡ false → eqb k 3 ≡ false → eqb k 4 ≡ false → eqb k 5 ≡ false → 2 ≤ length s
+    last : eqb k 1 ≡ false → eqb k 2 ≡ false → eqb k 3 ≡ false → eqb k 4 ≡ false → eqb k 5 ≡ false → lengthOf 6 ≤ length s
     unfolding lengthOf
     last a b c d e = six (eqb k 6) refl
       where
-        six : (t : Bool) → eqb k 6 ≡ t → 2 ≤ length s
-        six true f = kind 6 2 f refl
+        six : (t : Bool) → eqb k 6 ≡ t → lengthOf 6 ≤ length s
+        six true f = kind 6 f
         six false f =
             let z : lengthOf k ≡ 0 = rw (a, b, c, d, e, f) in
             absurd (eqb-false (lengthOf k) 0 known z)
@@ -103,17 +83,17 @@ module _ (s : List ℕ) where
         (pick (eqb k 2) (openOf k s)
         (pick (eqb k 3) (cryptOf s)
         (pick (eqb k 4) (Run (Park (getD s 1 0))) (pick (eqb k 5) (Run (Resume (getD s 1 0))) (Run (Close (getD s 1 0))))))))
-    unfolding lengthOf cryptOf
+    unfolding cryptOf
     in-command =
-        in-pick (eqb k 1) _ _ (λ a. in-open (λ _. kind 1 20 a refl) (λ f. absurd (let z : _≡_ {A = Bool} true false = cc in no z)))
+        in-pick (eqb k 1) _ _ (λ a. in-open (λ _. kind 1 a) (λ f. absurd (let z : _≡_ {A = Bool} true false = cc in no z)))
         (λ a.
-        in-pick (eqb k 2) _ _ (λ b. in-open (λ t. absurd (let z : _≡_ {A = Bool} true false = cc in no z)) (λ _. kind 2 51 b refl))
+        in-pick (eqb k 2) _ _ (λ b. in-open (λ t. absurd (let z : _≡_ {A = Bool} true false = cc in no z)) (λ _. kind 2 b))
         (λ b.
-        in-pick (eqb k 3) _ _ (λ c. run-in (record { line = line; named = refl; whole = kind 3 4 c refl }))
+        in-pick (eqb k 3) _ _ (λ c. run-in (record { line = line; named = refl; whole = kind 3 c }))
         (λ c.
-        in-pick (eqb k 4) _ _ (λ d. run-in (record { line = line; named = refl; whole = kind 4 2 d refl }))
+        in-pick (eqb k 4) _ _ (λ d. run-in (record { line = line; named = refl; whole = kind 4 d }))
         (λ d.
-        in-pick (eqb k 5) _ _ (λ e. run-in (record { line = line; named = refl; whole = kind 5 91 e refl }))
+        in-pick (eqb k 5) _ _ (λ e. run-in (record { line = line; named = refl; whole = kind 5 e }))
         (λ e. run-in (record { line = line; named = refl; whole = last a b c d e }))))))
       where
         no : _≡_ {A = Bool} true false → ⊥

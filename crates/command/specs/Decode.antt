@@ -10,6 +10,7 @@ use Rattle.command.specs.declared.Cipher.{Cipher}
 use Rattle.command.specs.declared.Cipher.the-variants.{Zuc, Rabbit, Snow128, Snow256, Kcipher2}
 use Rattle.command.specs.declared.CipherRead.{CipherRead}
 use Rattle.command.specs.declared.CipherRead.the-variants.{Is, Unknown}
+use Rattle.command.specs.declared.Command.{Command}
 use Rattle.command.specs.declared.Command.the-variants.{Tray, Own, Crypt, Park, Resume, Close}
 use Rattle.command.specs.declared.Decoded.{Decoded}
 use Rattle.command.specs.declared.Decoded.the-variants.{Run, Refused}
@@ -68,3 +69,23 @@ decodeOf s =
     (refusedIf (eqb (lengthOf (getD s 0 0)) 0) 2
     (refusedIf (ltb (length s) (lengthOf (getD s 0 0))) 1
     (commandOf (getD s 0 0) s)))
+
+-- the line that a command names, its first byte, and its length
+abbrev pub lineOf : Command → ℕ
+lineOf (Tray i c k) = i
+lineOf (Own i c) = i
+lineOf (Crypt i n) = i
+lineOf (Park i) = i
+lineOf (Resume i) = i
+lineOf (Close i) = i
+
+abbrev pub kindOf : Command → ℕ
+kindOf (Tray i c k) = 1
+kindOf (Own i c) = 2
+kindOf (Crypt i n) = 3
+kindOf (Park i) = 4
+kindOf (Resume i) = 5
+kindOf (Close i) = 6
+
+abbrev pub sizeOf : Command → ℕ
+sizeOf c = lengthOf (kindOf c)

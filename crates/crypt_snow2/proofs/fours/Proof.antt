@@ -26,8 +26,9 @@ loop-again c =
     let u = c .before .before in
     let l = u .before .before .before .before in
     let i = l .loop .inv in
-    let more : l .loop .at + 16 ≤ length (l .before .before .before .args .text .now) = omega (arith, i .at-most, u .before .before .before .loop-test .taken) in
-    running-turn gen 4 (omega arith) refl (l .before .before .before .pre .1) 16 refl i more (u .four .ensures)
+    let k = l .before .before .before in
+    let more : l .loop .at + 16 ≤ length (k .args .text .now) = omega (arith, i .at-most, u .before .before .before .loop-test .taken) in
+    running-turn gen 4 (omega arith) refl (k .pre .1) 16 refl i more (u .four .ensures)
 
 returns : tie.Need-returns Inv-loop μ-loop
 unfolding gen

@@ -20,8 +20,9 @@ returns c =
     let b = p .before .before .before in
     let o = b .before in
     let a = o .before .before .before .args in
-    did-end gen (omega arith) (a .from) (a .used) (a .st) (a .text .now) (a .out .now) (p .put-part .last .1 .1 .1 .1 .0) (λ j. getD (b .bytes .result) j 0)
-    (λ i h. ap (λ (x : List ℕ). getD x i 0) (b .bytes .ensures ∙ ap bytesOf (o .output .ensures))) (omega arith) (p .put-part .ensures) (c .before .if1 .taken) (c .step .ensures)
+    did-end gen (omega arith) (a .from) (a .used) (a .st) (a .text .now) (a .out .now) _ (λ j. getD (b .bytes .result) j 0)
+    (λ i h. ap (λ (x : List ℕ). getD x i 0) (b .bytes .ensures ∙ ap bytesOf (o .output .ensures)))
+    (omega arith) (p .put-part .ensures) (c .before .if1 .taken) (c .step .ensures)
 
 returns-2 : tie.Need-returns-2
 unfolding gen unit
@@ -30,8 +31,9 @@ returns-2 c =
     let b = p .before .before .before in
     let o = b .before in
     let a = o .before .before .before .args in
-    did-within gen (omega arith) (a .from) (a .used) (a .st) (a .text .now) (a .out .now) (p .put-part .last .1 .1 .1 .1 .0) (λ j. getD (b .bytes .result) j 0)
-    (λ i h. ap (λ (x : List ℕ). getD x i 0) (b .bytes .ensures ∙ ap bytesOf (o .output .ensures))) (omega arith) (p .put-part .ensures) (omega (arith, c .if1 .left))
+    did-within gen (omega arith) (a .from) (a .used) (a .st) (a .text .now) (a .out .now) _ (λ j. getD (b .bytes .result) j 0)
+    (λ i h. ap (λ (x : List ℕ). getD x i 0) (b .bytes .ensures ∙ ap bytesOf (o .output .ensures)))
+    (omega arith) (p .put-part .ensures) (omega (arith, c .if1 .left))
 
 pub part-spec : {M : Type 1} → statement M
 part-spec =

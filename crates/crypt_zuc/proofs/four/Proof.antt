@@ -9,20 +9,29 @@ use Rattle.crypt_zuc.proofs.four.Statement.{statement}
 use Rattle.crypt_zuc.proofs.four.Tie as tie
 
 sub-unit-5 : tie.Need-sub-unit-5
-sub-unit-5 c = let k = c .before .before .before .before .before .before .before .before .before .before .before .before .before .before .before .before .pre in search needs
+sub-unit-5 c =
+    let p = c .before .before .before .before .before .before .before .before in
+    let k = p .before .before .before .before .before .before .before .before .pre in search needs
 
 part-unit-start-5 : tie.Need-part-unit-start-5
-part-unit-start-5 c = let k = c .before .before .before .before .before .before .before .before .before .before .before .before .before .before .before .before .pre in search needs
+part-unit-start-5 c =
+    let p = c .before .before .before .before .before .before .before .before in
+    let k = p .before .before .before .before .before .before .before .before .pre in search needs
 
 sub-unit-6 : tie.Need-sub-unit-6
-sub-unit-6 c = let k = c .before .before .before .before .before .before .before .before .before .before .before .before .before .before .before .before .before .pre in search needs
+sub-unit-6 c =
+    let p = c .before .before .before .before .before .before .before .before in
+    let k = p .before .before .before .before .before .before .before .before .before .pre in search needs
 
 part-unit-start-6 : tie.Need-part-unit-start-6
-part-unit-start-6 c = let k = c .before .before .before .before .before .before .before .before .before .before .before .before .before .before .before .before .before .pre in search needs
+part-unit-start-6 c =
+    let p = c .before .before .before .before .before .before .before .before in
+    let k = p .before .before .before .before .before .before .before .before .before .pre in search needs
 
 unit-requires-4 : tie.Need-unit-requires-4
 unit-requires-4 c κs =
-    let k = c .before .before .before .before .before .before .before .before .before .before .before .before .before .before .before .before .before .before .pre in
+    let p = c .before .before .before .before .before .before .before .before in
+    let k = p .before .before .before .before .before .before .before .before .before .before .pre in
     (k .0, (omega arith, omega arith))
 
 returns : tie.Need-returns

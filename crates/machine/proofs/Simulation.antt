@@ -1,0 +1,166 @@
+-- The card's step is the machine's, for every machine that a list of calls leads to: each effect does the same to a line and to the line that starts anew from what is seen of it, and keeps
+-- every line good.
+-- Assumes nothing.
+use mathlib.Core.Path.{_≡_, refl, ap, ap₂, sym, _∙_, subst}
+use mathlib.Core.Bool.{Bool, true, false, not}
+use mathlib.Core.List.{List, [], _∷_, map}
+use Prim.Native.Nat.{ℕ, zero, suc, _+_, _*_, _≤_}
+use native.Mathlib.Omega.{arith}
+use lib.Dec.{ltb, eqb}
+use lib.ListN.{length, getD, take, drop, set, replicate}
+use borrow.Author.Tests.{ltb-false, eqb-true, not-false}
+use Rattle.words.specs.Lists.{All, Byte}
+use Rattle.words.specs.Tests.{pick}
+use Rattle.words.proofs.Ranges.{all-drop}
+use Rattle.ciphers.specs.Table.{isCipher, cipherAt, kcipher2}
+use Rattle.ciphers.proofs.States.{all-take}
+use Rattle.command.specs.declared.Cipher.{Cipher}
+use Rattle.command.specs.declared.Cipher.the-variants.{Zuc, Rabbit, Snow128, Snow256, Kcipher2}
+use Rattle.command.specs.declared.Command.{Command}
+use Rattle.command.specs.declared.Command.the-variants.{Tray, Own, Crypt, Park, Resume, Close}
+use Rattle.command.specs.declared.Decoded.{Decoded}
+use Rattle.command.specs.declared.Decoded.the-variants.{Run, Refused}
+use Rattle.command.specs.Decode.{decodeOf, numberOf}
+use Rattle.line.specs.declared.Line.{Line}
+use Rattle.machine.specs.Machine.{MLine, Machine, idle, shown, based, moved, enciphered, imageOf, lineAt, seen, back, lineCount, allOk, View, noView, viewOf, public, viewAt, isOpen, limit, keyIn, ivIn, Call, Effect, refuse, put, crypt, park, effectOf, ofDecoded, decide, answer, perform, step, shows, cardStep, freshMachine}
+use Rattle.machine.specs.OneStream.{CallBytes}
+use Rattle.machine.proofs.Lines.{Good, good-idle, good-open, shown-idle, shown-based, all-ok, opened-good, resumed-good, moved-same, crypted-same, moved-good, good-behind}
+use Rattle.machine.proofs.Rows.{Passed, by-rows}
+
+-- ---- every line
+
+pub data AllGood : List MLine → Type 0 where
+  none-good : AllGood []
+  more-good : {l : MLine} {ls : List MLine} → Good l → AllGood ls → AllGood (l ∷ ls)
+
+pub good-get : {ls : List MLine} → AllGood ls → (i : ℕ) → Good (getD ls i idle)
+good-get none-good i = good-idle
+good-get (more-good g h) zero = g
+good-get (more-good g h) (suc i) = good-get h i
+
+pub good-set : {ls : List MLine} → AllGood ls → (i : ℕ) {l : MLine} → Good l → AllGood (set ls i l)
+good-set none-good i g = none-good
+good-set (more-good x h) zero g = more-good g h
+good-set (more-good x h) (suc i) g = more-good x (good-set h i g)
+
+pub fresh-good : AllGood (freshMachine .lines)
+fresh-good = eight 8
+  where
+    eight : (k : ℕ) → AllGood (replicate k idle)
+    eight zero = none-good
+    eight (suc k) = more-good good-idle (eight k)
+
+-- ---- what a decision is
+
+pub data Fair (m : Machine) (a : Call) : Effect → Type 0 where
+  fair-refuse : {k : ℕ} → Fair m a (refuse k)
+  fair-put : {i : ℕ} {l : MLine} {size : ℕ} → Good l → Fair m a (put i l size)
+  fair-crypt : {i n size : ℕ} → lineAt m i .mode ≡ 1 → lineAt m i .pos + n ≤ limit → n ≤ length (a .text) → Fair m a (crypt i n size)
+  fair-park : {i size : ℕ} → lineAt m i .mode ≡ 1 → Fair m a (park i size)
+
+view-get : (ls : List MLine) (i : ℕ) → getD (map viewOf ls) i noView ≡ viewOf (getD ls i idle)
+unfolding viewOf
+view-get [] i = refl
+view-get (l ∷ ls) zero = refl
+view-get (l ∷ ls) (suc i) = view-get ls i
+
+known : (c : Cipher) → isCipher (numberOf c) ≡ true
+known Zuc = refl
+known Rabbit = refl
+known Snow128 = refl
+known Snow256 = refl
+known Kcipher2 = refl
+
+module _ (m : Machine) (a : Call) where
+  pub is-open : (i : ℕ) → not (isOpen (public m) i) ≡ false → lineAt m i .mode ≡ 1
+  unfolding viewOf
+  is-open i h = ap (λ (v : View). v .mode) (sym (view-get (m .lines) i)) ∙ eqb-true _ 1 (not-false _ h)
+
+  in-limit : (i n : ℕ) → ltb limit (viewAt (public m) i .pos + n) ≡ false → lineAt m i .pos + n ≤ limit
+  unfolding viewOf
+  in-limit i n p = ltb-false limit (lineAt m i .pos + n) (ap (λ (v : View). ltb limit (v .pos + n)) (sym (view-get (m .lines) i)) ∙ p)
+
+  fair-effect : CallBytes a → (c : Command) → Passed c (public m) a → Fair m a (effectOf c a)
+  fair-effect b (Tray i c k) p =
+      fair-put
+      (opened-good (numberOf c) (keyIn (Tray i c k) a) (ivIn (Tray i c k) a) (known c)
+      (all-take (cipherAt (numberOf c) .key) (all-take 32 (all-drop (32 * k) (b .tray))))
+      (all-take (cipherAt (numberOf c) .iv) (all-take 16 (all-drop 4 (b .command)))))
+  fair-effect b (Own i c) p =
+      fair-put
+      (opened-good (numberOf c) (keyIn (Own i c) a) (ivIn (Own i c) a) (known c)
+      (all-take (cipherAt (numberOf c) .key) (all-take 32 (all-drop 3 (b .command))))
+      (all-take (cipherAt (numberOf c) .iv) (all-take 16 (all-drop 35 (b .command)))))
+  fair-effect b (Crypt i n) p = fair-crypt (is-open i (p .row6)) (in-limit i n (p .row13)) (ltb-false (length (a .text)) n (p .row11))
+  fair-effect b (Park i) p = fair-park (is-open i (p .row6))
+  fair-effect b (Resume i) p = fair-put (resumed-good (a .command) (b .command) (not-false _ (p .row8)))
+  fair-effect b (Close i) p = fair-put good-idle
+
+  fair : CallBytes a → (d : Decoded) → Fair m a (ofDecoded d (public m) a)
+  fair b (Refused k) = fair-refuse
+  fair b (Run c) = by-rows (Fair m a) (λ k z. fair-refuse) c (public m) a (fair-effect b c)
+
+-- ---- lines, and the lines that start anew from what is seen of them
+
+pub shown-all : (ls : List Line) → map shown (map based ls) ≡ ls
+shown-all [] = refl
+shown-all (l ∷ ls) = ap₂ _∷_ (shown-based l) (shown-all ls)
+
+views-same : (ls : List MLine) → map viewOf (map based (map shown ls)) ≡ map viewOf ls
+unfolding viewOf based shown
+views-same [] = refl
+views-same (l ∷ ls) = ap (_∷_ (viewOf l)) (views-same ls)
+
+pub map-set : {X Y : Type 0} (f : X → Y) (xs : List X) (i : ℕ) (y : X) → map f (set xs i y) ≡ set (map f xs) i (f y)
+map-set f [] i y = refl
+map-set f (x ∷ xs) zero y = refl
+map-set f (x ∷ xs) (suc i) y = ap (_∷_ (f x)) (map-set f xs i y)
+
+based-idle : based (shown idle) ≡ idle
+unfolding based cipherAt kcipher2
+based-idle = ap based shown-idle
+
+get-same : (ls : List MLine) (i : ℕ) → getD (map based (map shown ls)) i idle ≡ based (shown (getD ls i idle))
+get-same [] i = sym based-idle
+get-same (l ∷ ls) zero = refl
+get-same (l ∷ ls) (suc i) = get-same ls i
+
+module _ (m : Machine) (all : AllGood (m .lines)) (a : Call) (b : CallBytes a) where
+  set-same : (i : ℕ) (x y : MLine) → shown x ≡ shown y → map shown (set (map based (map shown (m .lines))) i x) ≡ map shown (set (m .lines) i y)
+  set-same i x y e =
+      map-set shown (map based (map shown (m .lines))) i x
+      ∙ ap₂ (λ (k : List Line) (z : Line). set k i z) (shown-all (map shown (m .lines))) e
+      ∙ sym (map-set shown (m .lines) i y)
+
+  perform-same : (e : Effect) → Fair m a e → shows (perform (back (seen m)) (a .text) e) ≡ shows (perform m (a .text) e)
+  perform-same (refuse k) fair-refuse = λ j. record { outcome = answer k 0 0 []; card = record { lines = shown-all (map shown (m .lines)) j } }
+  perform-same (put i l size) (fair-put f) = λ j. record { outcome = answer 0 size 0 []; card = record { lines = set-same i l l refl j } }
+  perform-same (crypt i n size) (fair-crypt p q r) =
+      let l = lineAt m i in
+      let h = good-behind l (good-get all i) in
+      let g = get-same (m .lines) i in
+      let s : shown (moved (lineAt (back (seen m)) i) n) ≡ shown (moved l n) = ap (λ (x : MLine). shown (moved x n)) g ∙ moved-same l h n in
+      let w = ap (λ (x : MLine). enciphered x (take n (a .text))) g ∙ crypted-same l h n (take n (a .text)) in
+      λ j. record { outcome = answer 0 size n (w j); card = record { lines = set-same i (moved (lineAt (back (seen m)) i) n) (moved l n) s j } }
+  perform-same (park i size) (fair-park p) =
+      let w = ap (λ (x : MLine). imageOf (shown x)) (get-same (m .lines) i) ∙ ap imageOf (shown-based (shown (lineAt m i))) in
+      λ j. record { outcome = answer 0 size 0 (w j); card = record { lines = set-same i idle idle refl j } }
+
+  perform-good : (e : Effect) → Fair m a e → AllGood (perform m (a .text) e .machine .lines)
+  perform-good (refuse k) fair-refuse = all
+  perform-good (put i l size) (fair-put f) = good-set all i f
+  perform-good (crypt i n size) (fair-crypt p q r) = good-set all i (moved-good (lineAt m i) n (good-get all i) p q)
+  perform-good (park i size) (fair-park p) = good-set all i good-idle
+
+  -- every line stays good
+  pub step-good : AllGood (step m a .machine .lines)
+  unfolding step decide
+  step-good = perform-good _ (fair m a b (decodeOf (a .command)))
+
+  -- the card's step is the machine's
+  pub step-same : cardStep (seen m) a ≡ shows (step m a)
+  unfolding cardStep step decide
+  step-same =
+      ap (λ (t : Bool). pick t (shows (step (back (seen m)) a)) (record { outcome = answer 255 0 0 []; card = seen m })) (all-ok lineCount (m .lines) (good-get all))
+      ∙ ap (λ (vs : List View). shows (perform (back (seen m)) (a .text) (decide (record { lines = vs }) a))) (views-same (m .lines))
+      ∙ perform-same _ (fair m a b (decodeOf (a .command)))

@@ -1,0 +1,110 @@
+-- A list of calls as it was made, by the program or by the machine; what each call of it did, by what it was lent and what it answered; and what each line has enciphered.
+-- Assumes nothing.
+use Prim.Native.Nat.{ℕ}
+use mathlib.Core.List.{List, [], _∷_, _++_}
+use lib.ListN.{length, getD, take, drop}
+use lib.Dec.{eqb}
+use Rattle.words.specs.Tests.{pick}
+use Rattle.line.specs.declared.Line.{Line}
+use Rattle.command.specs.declared.Command.the-variants.{Tray, Own, Crypt, Park, Resume, Close}
+use Rattle.command.specs.declared.Decoded.{Decoded}
+use Rattle.command.specs.declared.Decoded.the-variants.{Run, Refused}
+use Rattle.command.specs.Decode.{decodeOf, numberOf}
+use Rattle.machine.specs.Machine.{MLine, Call, Shown, Seen, Machine, idle, idleLine, moved, opened, based, imageLine, imageIn, keyIn, ivIn, shows, step}
+
+-- ---- the list
+
+-- A call that was made: what it was lent, and all that came of it: code, counts, out as a whole and what is seen of the card.
+pub record Made : Type 0 where
+  pub call : Call
+  pub code : ℕ
+  pub used-command : ℕ
+  pub used-data : ℕ
+  pub written : ℕ
+  pub out : List ℕ
+  pub card : Seen
+
+abbrev pub madeOf : Call → Shown → Made
+madeOf a s =
+    record {
+      call = a;
+      code = s .outcome .code;
+      used-command = s .outcome .used-command;
+      used-data = s .outcome .used-data;
+      written = length (s .outcome .written);
+      out = s .outcome .written ++ drop (length (s .outcome .written)) (a .out);
+      card = s .card;
+    }
+
+-- The plain machine's list. It is fed the calls, and nothing of the program's card or answers.
+abbrev pub machineRun : Machine → List Call → List Made
+machineRun m [] = []
+machineRun m (a ∷ more) = madeOf a (shows (step m a)) ∷ machineRun (step m a .machine) more
+
+abbrev pub callsOf : List Made → List Call
+callsOf [] = []
+callsOf (x ∷ xs) = x .call ∷ callsOf xs
+
+-- the card after a list that starts with the card c
+abbrev pub cardAfter : Seen → List Made → Seen
+cardAfter c [] = c
+cardAfter c (x ∷ xs) = cardAfter (x .card) xs
+
+abbrev pub lineOn : Seen → ℕ → Line
+lineOn c i = getD (c .lines) i idleLine
+
+-- ---- what a call did, by what it was lent and what it answered
+
+pub data Did : Type 0 where
+  did-nothing : Did
+  did-open : (i c : ℕ) (key iv : List ℕ) → Did
+  did-crypt : (i : ℕ) (input output : List ℕ) → Did
+  did-park : (i : ℕ) (image : List ℕ) → Did
+  did-resume : (i : ℕ) (image : List ℕ) → Did
+  did-close : (i : ℕ) → Did
+
+-- An accepted command. A crypt's input is the data it uses, its output what it writes.
+abbrev pub doneBy : Made → Decoded → Did
+doneBy x (Run (Tray i c k)) = did-open i (numberOf c) (keyIn (Tray i c k) (x .call)) (ivIn (Tray i c k) (x .call))
+doneBy x (Run (Own i c)) = did-open i (numberOf c) (keyIn (Own i c) (x .call)) (ivIn (Own i c) (x .call))
+doneBy x (Run (Crypt i n)) = did-crypt i (take (x .used-data) (x .call .text)) (take (x .written) (x .out))
+doneBy x (Run (Park i)) = did-park i (take (x .written) (x .out))
+doneBy x (Run (Resume i)) = did-resume i (imageIn (x .call .command))
+doneBy x (Run (Close i)) = did-close i
+doneBy x (Refused k) = did-nothing
+
+abbrev pub did : Made → Did
+did x = pick (eqb (x .code) 0) (doneBy x (decodeOf (x .call .command))) did-nothing
+
+-- ---- a line's log: where its last accepted open or resume began, and the inputs and the outputs of its accepted crypts since then, joined
+
+pub record Log : Type 0 where
+  pub start : MLine
+  pub ins : List ℕ
+  pub outs : List ℕ
+
+abbrev pub begun : MLine → Log
+begun l = record { start = l; ins = []; outs = [] }
+
+abbrev pub joined : Log → List ℕ → List ℕ → Log
+joined g x y = record { start = g .start; ins = g .ins ++ x; outs = g .outs ++ y }
+
+-- line i's log after a call; an idle line's log is empty
+abbrev pub noted : ℕ → Log → Did → Log
+noted i g did-nothing = g
+noted i g (did-open j c key iv) = pick (eqb j i) (begun (opened c key iv)) g
+noted i g (did-crypt j input output) = pick (eqb j i) (joined g input output) g
+noted i g (did-park j image) = pick (eqb j i) (begun idle) g
+noted i g (did-resume j image) = pick (eqb j i) (begun (based (imageLine image))) g
+noted i g (did-close j) = pick (eqb j i) (begun idle) g
+
+abbrev pub logAfter : ℕ → Log → List Made → Log
+logAfter i g [] = g
+logAfter i g (x ∷ xs) = logAfter i (noted i g (did x)) xs
+
+abbrev pub logOf : ℕ → List Made → Log
+logOf i xs = logAfter i (begun idle) xs
+
+-- where a log's line stands: as far on from the start as bytes were joined
+abbrev pub standing : Log → MLine
+standing g = moved (g .start) (length (g .ins))

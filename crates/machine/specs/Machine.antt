@@ -1,0 +1,355 @@
+-- The plain machine (document 01, "The card"): eight lines, each idle or with a cipher, a base state B, a base unit m and a position n, and its step for each command. A step is
+-- `perform (decide ..)`: `decide` goes down the refusals in their order, by what is public of the lines, the command, key and image bytes that a check names, and the lengths of data and
+-- out; `perform` does what is left.
+-- Assumes nothing.
+use mathlib.Core.Bool.{Bool, true, false, not}
+use mathlib.Core.List.{List, [], _∷_, _++_, map}
+use Prim.Native.Nat.{ℕ, zero, suc, _+_, _*_, _/_, _%_, _^_}
+use lib.Dec.{ltb, leb, eqb}
+use lib.ListN.{length, getD, take, drop, set, replicate}
+use Rattle.words.specs.Lists.{tab}
+use Rattle.words.specs.Strings.{wordAt, bytesOf}
+use Rattle.words.specs.Tests.{both, pick}
+use Rattle.keystream.specs.Stream.{Gen, stateAt, byteAt, xorFrom}
+use Rattle.ciphers.specs.States.{stateWords}
+use Rattle.ciphers.specs.Table.{Cipher, cipherAt, isCipher}
+use Rattle.command.specs.declared.Command.{Command}
+use Rattle.command.specs.declared.Command.the-variants.{Tray, Own, Crypt, Park, Resume, Close}
+use Rattle.command.specs.declared.Decoded.{Decoded}
+use Rattle.command.specs.declared.Decoded.the-variants.{Run, Refused}
+use Rattle.command.specs.Decode.{decodeOf, numberOf, lineOf, kindOf, sizeOf}
+use Rattle.line.specs.declared.Line.{Line}
+
+-- ---- lines
+
+-- a mode (0 idle, 1 open), a cipher, document 01's base state B, base unit m and position n
+pub record MLine : Type 0 where
+  pub mode : ℕ
+  pub cipher : ℕ
+  pub base : List ℕ
+  pub from : ℕ
+  pub pos : ℕ
+
+abbrev pub zeros : List ℕ
+zeros = replicate 20 0
+
+abbrev pub idle : MLine
+idle = record { mode = 0; cipher = 0; base = zeros; from = 0; pos = 0 }
+
+-- the generator of a line, and the unit that its position is in
+abbrev pub genOf : ℕ → Gen (List ℕ)
+genOf c = cipherAt c .gen
+
+abbrev pub genAt : MLine → Gen (List ℕ)
+genAt l = genOf (l .cipher)
+
+unfoldable pub unitAt : MLine → ℕ
+unitAt l = l .pos / genAt l .unit
+
+-- the line's S(i): Next applied i - m times to B
+unfoldable pub stateOf : MLine → ℕ → List ℕ
+stateOf l = stateAt (genAt l) (l .base) (l .from)
+
+-- the line's keystream byte j: byte j mod u of Strm (S(j div u))
+unfoldable pub byteOf : MLine → ℕ → ℕ
+byteOf l = byteAt (genAt l) (l .base) (l .from)
+
+-- what is seen of a line: its mode, its cipher, n and S(n div u)
+unfoldable pub shown : MLine → Line
+shown l = record { mode = l .mode; cipher = l .cipher; n = l .pos; words = stateOf l (unitAt l) }
+
+-- the line that starts from what is seen of it
+unfoldable pub based : Line → MLine
+based l = record { mode = l .mode; cipher = l .cipher; base = l .words; from = l .n / genOf (l .cipher) .unit; pos = l .n }
+
+-- a text, each byte XORed with the line's keystream byte of its position, the first at n
+unfoldable pub enciphered : MLine → List ℕ → List ℕ
+enciphered l text = xorFrom (byteOf l) (l .pos) text
+
+-- the line k bytes on
+unfoldable pub moved : MLine → ℕ → MLine
+moved l k = record { mode = l .mode; cipher = l .cipher; base = l .base; from = l .from; pos = l .pos + k }
+
+-- a line that is opened: B = S(0), m = 0, n = 0
+unfoldable pub opened : ℕ → List ℕ → List ℕ → MLine
+opened c key iv = record { mode = 1; cipher = c; base = cipherAt c .init key iv; from = 0; pos = 0 }
+
+-- ---- images: cipher 1, n in 8 bytes, the state, zeros to 89 bytes
+
+abbrev pub imageLength : ℕ
+imageLength = 89
+
+-- words one after the other, most significant byte first
+abbrev pub spelt : List ℕ → List ℕ
+spelt [] = []
+spelt (w ∷ ws) = bytesOf w ++ spelt ws
+
+-- n's two halves, and the state's words with the zeros after them
+unfoldable pub imageOf : Line → List ℕ
+imageOf l = l .cipher ∷ spelt (l .n / 2 ^ 32 ∷ l .n % 2 ^ 32 ∷ l .words)
+
+-- the open line that an image holds
+unfoldable pub imageLine : List ℕ → Line
+imageLine img =
+    record { mode = 1; cipher = getD img 0 0; n = wordAt img 1 * 2 ^ 32 + wordAt img 5; words = tab stateWords (λ i. wordAt img (9 + 4 * i)) }
+
+-- the image that a resume brings
+abbrev pub imageIn : List ℕ → List ℕ
+imageIn command = take imageLength (drop 2 command)
+
+-- ---- what numbers 8 and 255 ask
+
+-- document 01's 2^36
+abbrev pub limit : ℕ
+limit = 2 ^ 36
+
+-- an image, or an open line: its cipher, n, and its state with the zeros after it
+unfoldable pub openOk : Line → Bool
+openOk l = both (isCipher (l .cipher)) (both (leb (l .n) limit) (cipherAt (l .cipher) .admits (l .words)))
+
+abbrev pub allZero : List ℕ → Bool
+allZero [] = true
+allZero (x ∷ l) = both (eqb x 0) (allZero l)
+
+-- an idle line as on a fresh card
+unfoldable pub idleOk : Line → Bool
+idleOk l = both (eqb (l .cipher) 0) (both (eqb (l .n) 0) (allZero (l .words)))
+
+unfoldable pub lineOk : Line → Bool
+lineOk l = pick (eqb (l .mode) 0) (idleOk l) (both (eqb (l .mode) 1) (openOk l))
+
+abbrev pub idleLine : Line
+idleLine = record { mode = 0; cipher = 0; n = 0; words = zeros }
+
+-- ---- a call, and what it gives
+
+pub record Call : Type 0 where
+  pub command : List ℕ
+  pub tray : List ℕ
+  pub text : List ℕ
+  pub out : List ℕ
+
+pub record Outcome : Type 0 where
+  pub code : ℕ
+  pub used-command : ℕ
+  pub used-data : ℕ
+  pub written : List ℕ
+
+-- ---- the machine, what is seen of it, and what is public of it
+
+pub record Machine : Type 0 where
+  pub lines : List MLine
+
+abbrev pub lineAt : Machine → ℕ → MLine
+lineAt m i = getD (m .lines) i idle
+
+abbrev pub withLine : Machine → ℕ → MLine → Machine
+withLine m i l = record { lines = set (m .lines) i l }
+
+pub record Seen : Type 0 where
+  pub lines : List Line
+
+abbrev pub seen : Machine → Seen
+seen m = record { lines = map shown (m .lines) }
+
+-- the machine that starts from what is seen
+abbrev pub back : Seen → Machine
+back s = record { lines = map based (s .lines) }
+
+abbrev pub lineCount : ℕ
+lineCount = 8
+
+abbrev pub freshCard : Seen
+freshCard = record { lines = replicate 8 idleLine }
+
+abbrev pub freshMachine : Machine
+freshMachine = record { lines = replicate 8 idle }
+
+-- each of the first k lines is as a call leaves it
+abbrev pub allOk : ℕ → List Line → Bool
+allOk zero ls = true
+allOk (suc k) ls = both (allOk k ls) (lineOk (getD ls k idleLine))
+
+-- of a line its mode, its cipher and its position are public
+pub record View : Type 0 where
+  pub mode : ℕ
+  pub cipher : ℕ
+  pub pos : ℕ
+
+abbrev pub noView : View
+noView = record { mode = 0; cipher = 0; pos = 0 }
+
+unfoldable pub viewOf : MLine → View
+viewOf l = record { mode = l .mode; cipher = l .cipher; pos = l .pos }
+
+pub record Public : Type 0 where
+  pub lines : List View
+
+abbrev pub public : Machine → Public
+public m = record { lines = map viewOf (m .lines) }
+
+abbrev pub viewAt : Public → ℕ → View
+viewAt v i = getD (v .lines) i noView
+
+abbrev pub isIdle : Public → ℕ → Bool
+isIdle v i = eqb (viewAt v i .mode) 0
+
+abbrev pub isOpen : Public → ℕ → Bool
+isOpen v i = eqb (viewAt v i .mode) 1
+
+-- ---- commands by their first byte, and their operands
+
+-- 01 or 02
+abbrev pub opens : Command → Bool
+opens c = ltb (kindOf c) 3
+
+-- 01
+abbrev pub fromTray : Command → Bool
+fromTray c = eqb (kindOf c) 1
+
+-- 03
+abbrev pub crypts : Command → Bool
+crypts c = eqb (kindOf c) 3
+
+-- 05
+abbrev pub resumes : Command → Bool
+resumes c = eqb (kindOf c) 5
+
+-- 01, 02 or 05
+abbrev pub begins : Command → Bool
+begins c = pick (opens c) true (resumes c)
+
+-- 03 or 04
+abbrev pub writes : Command → Bool
+writes c = pick (crypts c) true (eqb (kindOf c) 4)
+
+-- the cipher that a line is opened with, the number of its key in the tray, and the count of a crypt; 0 of another command
+abbrev pub cipherIn : Command → ℕ
+cipherIn (Tray i c k) = numberOf c
+cipherIn (Own i c) = numberOf c
+cipherIn (Crypt i n) = 0
+cipherIn (Park i) = 0
+cipherIn (Resume i) = 0
+cipherIn (Close i) = 0
+
+abbrev pub keyNumber : Command → ℕ
+keyNumber (Tray i c k) = k
+keyNumber (Own i c) = 0
+keyNumber (Crypt i n) = 0
+keyNumber (Park i) = 0
+keyNumber (Resume i) = 0
+keyNumber (Close i) = 0
+
+abbrev pub countOf : Command → ℕ
+countOf (Tray i c k) = 0
+countOf (Own i c) = 0
+countOf (Crypt i n) = n
+countOf (Park i) = 0
+countOf (Resume i) = 0
+countOf (Close i) = 0
+
+-- the 32 bytes of a key, a part of the tray or a part of the command, and the 16 bytes of an IV; the cipher's own stand first, zeros after
+abbrev pub keyField : Command → Call → List ℕ
+keyField c a = pick (fromTray c) (take 32 (drop (32 * keyNumber c) (a .tray))) (take 32 (drop 3 (a .command)))
+
+abbrev pub ivField : Command → Call → List ℕ
+ivField c a = take 16 (drop (pick (fromTray c) 4 35) (a .command))
+
+abbrev pub keyIn : Command → Call → List ℕ
+keyIn c a = take (cipherAt (cipherIn c) .key) (keyField c a)
+
+abbrev pub ivIn : Command → Call → List ℕ
+ivIn c a = take (cipherAt (cipherIn c) .iv) (ivField c a)
+
+-- a byte beyond the cipher's length is not 0
+unfoldable pub spareUsed : ℕ → List ℕ → List ℕ → Bool
+spareUsed c key iv = not (both (allZero (drop (cipherAt c .key) key)) (allZero (drop (cipherAt c .iv) iv)))
+
+-- a tray length that is a multiple of 32 and at most 8,192
+abbrev pub trayOk : ℕ → Bool
+trayOk n = both (eqb (n % 32) 0) (leb n 8192)
+
+-- ---- what is to be done
+
+-- a refusal; a line put in the place of line i; count bytes crypted on line i; line i parked; each with the bytes of the command
+pub data Effect : Type 0 where
+  refuse : ℕ → Effect
+  put : (i : ℕ) (l : MLine) (size : ℕ) → Effect
+  crypt : (i count size : ℕ) → Effect
+  park : (i size : ℕ) → Effect
+
+-- a row of the table: the first whose condition holds gives its number
+unfoldable pub refuseIf : Bool → ℕ → Effect → Effect
+refuseIf true k e = refuse k
+refuseIf false k e = e
+
+abbrev pub effectOf : Command → Call → Effect
+effectOf (Tray i c k) a = put i (opened (numberOf c) (keyIn (Tray i c k) a) (ivIn (Tray i c k) a)) (sizeOf (Tray i c k))
+effectOf (Own i c) a = put i (opened (numberOf c) (keyIn (Own i c) a) (ivIn (Own i c) a)) (sizeOf (Own i c))
+effectOf (Crypt i n) a = crypt i n (sizeOf (Crypt i n))
+effectOf (Park i) a = park i (sizeOf (Park i))
+effectOf (Resume i) a = put i (based (imageLine (imageIn (a .command)))) (sizeOf (Resume i))
+effectOf (Close i) a = put i idle (sizeOf (Close i))
+
+-- The refusals of a command that is read, in document 01's order; 1, 2, 1, 3 and 4 come before them, in `decodeOf`.
+unfoldable pub decided : Command → Public → Call → Effect
+decided c v a =
+    -- open or resume on an open line
+    refuseIf (both (begins c) (not (isIdle v (lineOf c)))) 5
+    -- crypt, park or close on an idle one
+    (refuseIf (both (not (begins c)) (not (isOpen v (lineOf c)))) 6
+    -- tray length not a multiple of 32, or over 8,192
+    (refuseIf (both (fromTray c) (not (trayOk (length (a .tray))))) 9
+    -- key number not in it
+    (refuseIf (both (fromTray c) (ltb (length (a .tray)) (32 * keyNumber c + 32))) 10
+    -- a key or IV byte beyond the cipher's length is not 0
+    (refuseIf (both (opens c) (spareUsed (cipherIn c) (keyField c a) (ivField c a))) 7
+    -- image: cipher, n, padding, ZUC cell, Rabbit carry
+    (refuseIf (both (resumes c) (not (openOk (imageLine (imageIn (a .command)))))) 8
+    -- n + count over 2^36
+    (refuseIf (both (crypts c) (ltb limit (viewAt v (lineOf c) .pos + countOf c))) 13
+    -- data shorter than count
+    (refuseIf (both (crypts c) (ltb (length (a .text)) (countOf c))) 11
+    -- out shorter than count, or than an image
+    (refuseIf (both (writes c) (ltb (length (a .out)) (pick (crypts c) (countOf c) imageLength))) 12
+    (effectOf c a)))))))))
+
+abbrev pub ofDecoded : Decoded → Public → Call → Effect
+ofDecoded (Refused k) v a = refuse k
+ofDecoded (Run c) v a = decided c v a
+
+unfoldable pub decide : Public → Call → Effect
+decide v a = ofDecoded (decodeOf (a .command)) v a
+
+-- ---- the step
+
+pub record Stepped : Type 0 where
+  pub machine : Machine
+  pub outcome : Outcome
+
+abbrev pub answer : ℕ → ℕ → ℕ → List ℕ → Outcome
+answer k c d w = record { code = k; used-command = c; used-data = d; written = w }
+
+abbrev pub perform : Machine → List ℕ → Effect → Stepped
+perform m text (refuse k) = record { machine = m; outcome = answer k 0 0 [] }
+perform m text (put i l size) = record { machine = withLine m i l; outcome = answer 0 size 0 [] }
+perform m text (crypt i n size) =
+    record { machine = withLine m i (moved (lineAt m i) n); outcome = answer 0 size n (enciphered (lineAt m i) (take n text)) }
+perform m text (park i size) =
+    record { machine = withLine m i idle; outcome = answer 0 size 0 (imageOf (shown (lineAt m i))) }
+
+unfoldable pub step : Machine → Call → Stepped
+step m a = perform m (a .text) (decide (public m) a)
+
+-- ---- what a call shows: its outcome, and what is seen after it
+
+pub record Shown : Type 0 where
+  pub outcome : Outcome
+  pub card : Seen
+
+abbrev pub shows : Stepped → Shown
+shows s = record { outcome = s .outcome; card = seen (s .machine) }
+
+-- what a call on a card gives that is seen so: 255 where a line is not as a call leaves it, else the machine's step from what is seen
+unfoldable pub cardStep : Seen → Call → Shown
+cardStep c a = pick (allOk lineCount (c .lines)) (shows (step (back c) a)) (record { outcome = answer 255 0 0 []; card = c })

@@ -1,0 +1,71 @@
+-- Demand 3: what is claimed of every list of calls from a fresh card. Each line's joined outputs are its joined inputs XORed with one keystream.
+-- Assumes nothing.
+use Prim.Native.Nat.{ℕ, _+_, _/_, _<_, _≤_}
+use mathlib.Core.List.{List, [], _∷_, _++_}
+use mathlib.Core.Path.{_≡_}
+use lib.ListN.{length, getD}
+use Rattle.words.specs.Lists.{All, Byte}
+use Rattle.keystream.specs.Stream.{xorFrom}
+use Rattle.ciphers.specs.Table.{cipherAt}
+use Rattle.line.specs.declared.Line.{Line}
+use Rattle.machine.specs.Machine.{MLine, Call, genOf, genAt, byteOf, stateOf, imageLine, freshMachine, freshCard}
+use Rattle.machine.specs.Logs.{Made, machineRun, callsOf, cardAfter, lineOn, did, did-open, did-park, did-resume, Log, logOf, standing}
+
+-- The only hypothesis: the buffers that a key, an IV or an image is read from hold bytes.
+pub record CallBytes (a : Call) : Type 0 where
+  pub command : All Byte (a .command)
+  pub tray : All Byte (a .tray)
+
+abbrev pub AllBytes : List Made → Type 0
+AllBytes [] = Unit {0}
+AllBytes (x ∷ xs) = CallBytes (x .call) × AllBytes xs
+
+-- A line, as it is seen, and its log: the outputs joined are the inputs joined, each byte XORed with the keystream byte of its position.
+pub record Streamed (l : Line) (g : Log) : Type 0 where
+  pub mode : l .mode ≡ g .start .mode
+  pub cipher : l .cipher ≡ g .start .cipher
+  pub position : l .n ≡ g .start .pos + length (g .ins)
+  pub state : l .words ≡ stateOf (g .start) (l .n / genOf (l .cipher) .unit)
+  pub outputs : g .outs ≡ xorFrom (byteOf (g .start)) (g .start .pos) (g .ins)
+
+-- A line that begins where another stands: it goes on with that line's bytes, and their states.
+pub record GoesOn (l l' : MLine) : Type 0 where
+  pub mode : l' .mode ≡ l .mode
+  pub cipher : l' .cipher ≡ l .cipher
+  pub position : l' .pos ≡ l .pos
+  pub bytes : (j : ℕ) → l .pos ≤ j → byteOf l' j ≡ byteOf l j
+  pub states : (j : ℕ) → l .pos ≤ j → stateOf l' (j / genAt l .unit) ≡ stateOf l (j / genAt l .unit)
+
+-- An accepted call on line i: the second byte of every command is its line.
+pub record On (i : ℕ) (x : Made) : Type 0 where
+  pub accepted : x .code ≡ 0
+  pub line : getD (x .call .command) 1 0 ≡ i
+
+-- Line i after a call is as it was before, on the card and in its log.
+pub record Kept (i : ℕ) (before : List Made) (x : Made) : Type 0 where
+  pub line : lineOn (x .card) i ≡ lineOn (cardAfter freshCard before) i
+  pub log : logOf i (before ++ (x ∷ [])) ≡ logOf i before
+
+-- x stands in the list xs after the calls before it.
+pub record Stands (before : List Made) (x : Made) (xs : List Made) : Type 0 where
+  pub after : List Made
+  pub is : xs ≡ before ++ (x ∷ after)
+
+-- The list xs, from a fresh card.
+pub record OneStream (xs : List Made) : Type 0 where
+  -- every code, count and byte of out, and after each call what is seen of each line, are the machine's
+  pub machine-is : xs ≡ machineRun freshMachine (callsOf xs)
+  -- after the list, each line's joined outputs, its position and its state
+  pub streams : (i : ℕ) → Streamed (lineOn (cardAfter freshCard xs) i) (logOf i xs)
+  -- an open begins at position 0, in S(0) of its cipher, key and IV
+  pub from-key : {before : List Made} {x : Made} → Stands before x xs → (i c : ℕ) (key iv : List ℕ) → did x ≡ did-open i c key iv →
+      lineOn (x .card) i ≡ record { mode = 1; cipher = c; n = 0; words = cipherAt c .init key iv }
+  -- a resume begins at the cipher, the position and the state in its image, whatever image it is
+  pub from-image : {before : List Made} {x : Made} → Stands before x xs → (j : ℕ) (image : List ℕ) → did x ≡ did-resume j image →
+      lineOn (x .card) j ≡ imageLine image
+  -- with an image that a park earlier in the list wrote it goes on from the byte where it was parked, on whichever line
+  pub goes-on : {before sofar : List Made} {p x : Made} → Stands sofar x xs → Stands before p sofar → (i j : ℕ) (image : List ℕ) →
+      did p ≡ did-park i image → did x ≡ did-resume j image →
+      GoesOn (standing (logOf i before)) (logOf j (sofar ++ (x ∷ [])) .start)
+  -- a call on another line, or a refused one, changes neither a line's stream nor its position nor its state
+  pub others : {before : List Made} {x : Made} → Stands before x xs → (i : ℕ) → (On i x → ⊥) → Kept i before x
