@@ -1,0 +1,83 @@
+-- What a call did, as its log has it by what was lent and answered, is what the machine was decided to do: the written bytes stand first in out, and a refusal has a number that is not 0.
+-- Assumes nothing.
+use mathlib.Core.Path.{_≡_, refl, sym, subst}
+use mathlib.Core.Bool.{Bool, true, false}
+use mathlib.Core.List.{List, _++_}
+use Prim.Native.Nat.{ℕ, _<_, _≤_}
+use lib.Dec.{eqb}
+use lib.ListN.{length, getD, take, drop}
+use lib.Seq.{take-at}
+use borrow.Author.Tests.{ltb-false}
+use Rattle.words.specs.Tests.{pick}
+use Rattle.command.specs.declared.Command.{Command}
+use Rattle.command.specs.declared.Command.the-variants.{Tray, Own, Crypt, Park, Resume, Close}
+use Rattle.command.specs.declared.Decoded.{Decoded}
+use Rattle.command.specs.declared.Decoded.the-variants.{Run, Refused}
+use Rattle.command.specs.Decode.{decodeOf}
+use Rattle.command.proofs.Reading.{ReadIn, refused-in, run-in, Has, read-in}
+use Rattle.machine.specs.Machine.{Machine, lineAt, idle, shown, based, opened, enciphered, imageOf, imageLine, Call, Effect, refuse, put, crypt, park, public, effectOf, ofDecoded, decide, perform, step, shows}
+use Rattle.machine.specs.Logs.{Made, madeOf, Did, did-nothing, did-open, did-crypt, did-park, did-resume, did-close, doneBy, did}
+use Rattle.machine.proofs.Rows.{Passed, by-rows}
+use Rattle.machine.proofs.Simulation.{is-open}
+
+-- the line that a call names
+pub record Names (a : Call) (j : ℕ) : Type 0 where
+  pub below : j < 8
+  pub named : j ≡ getD (a .command) 1 0
+
+pub data Explained (m : Machine) (a : Call) : Effect → Did → Type 0 where
+  was-refused : {k : ℕ} → Explained m a (refuse k) did-nothing
+  was-open : {j size c : ℕ} {key iv : List ℕ} → Names a j → Explained m a (put j (opened c key iv) size) (did-open j c key iv)
+  was-crypt : {j n size : ℕ} → Names a j → n ≤ length (a .text)
+      → Explained m a (crypt j n size) (did-crypt j (take n (a .text)) (enciphered (lineAt m j) (take n (a .text))))
+  was-park : {j size : ℕ} → Names a j → lineAt m j .mode ≡ 1 → Explained m a (park j size) (did-park j (imageOf (shown (lineAt m j))))
+  was-resume : {j size : ℕ} {image : List ℕ} → Names a j → Explained m a (put j (based (imageLine image)) size) (did-resume j image)
+  was-close : {j size : ℕ} → Names a j → Explained m a (put j idle size) (did-close j)
+
+module _ (m : Machine) (a : Call) where
+  abbrev made : Effect → Made
+  made e = madeOf a (shows (perform m (a .text) e))
+
+  -- an effect, and what the log makes of it for a command that was read so
+  record Explains (d : Decoded) (e : Effect) : Type 0 where
+    pub is : Explained m a e (pick (eqb (made e .code) 0) (doneBy (made e) d) did-nothing)
+
+  -- the bytes written stand first in out
+  first : (w : List ℕ) → take (length w) (w ++ drop (length w) (a .out)) ≡ w
+  first w = take-at w (drop (length w) (a .out)) (length w) refl
+
+  explains-refusal : (d : Decoded) (k : ℕ) → eqb k 0 ≡ false → Explains d (refuse k)
+  explains-refusal d k z = record { is = rw z was-refused }
+
+  names : (c : Command) → Has (a .command) c → Names a (Rattle.command.specs.Decode.lineOf c)
+  names c h = record { below = h .line; named = h .named }
+
+  explains-effect : (c : Command) → Has (a .command) c → Passed c (public m) a → Explains (Run c) (effectOf c a)
+  explains-effect (Tray i c k) h p = record { is = was-open (names (Tray i c k) h) }
+  explains-effect (Own i c) h p = record { is = was-open (names (Own i c) h) }
+  explains-effect (Crypt i n) h p =
+      record {
+        is =
+            subst (λ (y : List ℕ). Explained m a (effectOf (Crypt i n) a) (did-crypt i (take n (a .text)) y)) (sym (first (enciphered (lineAt m i) (take n (a .text)))))
+            (was-crypt (names (Crypt i n) h) (ltb-false (length (a .text)) n (p .row11)));
+      }
+  explains-effect (Park i) h p =
+      record {
+        is =
+            subst (λ (y : List ℕ). Explained m a (effectOf (Park i) a) (did-park i y)) (sym (first (imageOf (shown (lineAt m i)))))
+            (was-park (names (Park i) h) (is-open m a i (p .row6)));
+      }
+  explains-effect (Resume i) h p = record { is = was-resume (names (Resume i) h) }
+  explains-effect (Close i) h p = record { is = was-close (names (Close i) h) }
+
+  explains-decoded : (d : Decoded) → ReadIn (a .command) d → Explains d (ofDecoded d (public m) a)
+  explains-decoded (Refused k) r = record { is = either (eqb k 0) }
+    where
+      either : (b : Bool) → Explained m a (refuse k) (pick b did-nothing did-nothing)
+      either true = was-refused
+      either false = was-refused
+  explains-decoded (Run c) (run-in h) = by-rows (Explains (Run c)) (explains-refusal (Run c)) c (public m) a (explains-effect c h)
+
+  pub explained : Explained m a (decide (public m) a) (did (madeOf a (shows (step m a))))
+  unfolding step decide
+  explained = explains-decoded (decodeOf (a .command)) (read-in (a .command)) .is

@@ -1,0 +1,293 @@
+-- Demand 3 of every list that is the machine's: what holds of the lines and of their logs is carried along the list call by call, and each claim is read off at its place in the list.
+-- Assumes nothing.
+use mathlib.Core.Path.{_≡_, refl, ap, ap₂, sym, _∙_, subst}
+use mathlib.Core.Bool.{Bool}
+use mathlib.Core.List.{List, [], _∷_, _++_, append-assoc}
+use Prim.Native.Nat.{ℕ, zero, suc, _+_, _-_, _/_, _≤_, _^_}
+use native.Mathlib.Nat.{div-eq-of-lt}
+use native.Mathlib.Omega.{arith}
+use lib.Dec.{eqb}
+use lib.ListN.{length, getD, set, length-set, replicate}
+use lib.Seq.{getD-set-same, getD-set-other}
+use borrow.Author.Tests.{eq-eqb, ne-eqb}
+use Rattle.words.specs.Lists.{iter}
+use Rattle.words.specs.Tests.{pick}
+use Rattle.keystream.specs.Stream.{stateAt, xorFrom}
+use Rattle.keystream.proofs.Laws.{xorFrom-append, xorFrom-agree}
+use Rattle.ciphers.specs.Table.{cipherAt}
+use Rattle.line.specs.declared.Line.{Line}
+use Rattle.machine.specs.Machine.{MLine, Machine, Seen, lineAt, idle, idleLine, genOf, unitAt, stateOf, byteOf, moved, shown, based, opened, limit, imageOf, imageLine, Call, Effect, refuse, put, crypt, park, public, decide, perform, step, seen, shows, freshMachine, freshCard}
+use Rattle.machine.specs.Logs.{Made, madeOf, machineRun, callsOf, cardAfter, lineOn, Did, did-nothing, did-open, did-crypt, did-park, did-resume, did-close, did, Log, begun, noted, logAfter, logOf, standing}
+use Rattle.machine.specs.OneStream.{AllBytes, Streamed, GoesOn, On, Kept, Stands, OneStream}
+use Rattle.machine.proofs.Lines.{unit-pos, Good, good-idle, good-open, good-behind, shown-idle, shown-based, state-fit}
+use Rattle.machine.proofs.Simulation.{AllGood, good-get, step-good, fresh-good}
+use Rattle.machine.proofs.Images.{Sized, image-goes-on}
+use Rattle.machine.proofs.Explained.{Names, Explained, was-refused, was-open, was-crypt, was-park, was-resume, was-close, explained}
+use Rattle.machine.proofs.Streams.{Held, begun-held, effect-held, seen-at, held-streamed}
+
+-- ---- a list that is the machine's, call by call
+
+abbrev pub Runs : Machine → List Made → Type 0
+Runs m [] = Unit {0}
+Runs m (x ∷ xs) = (x ≡ madeOf (x .call) (shows (step m (x .call)))) × Runs (step m (x .call) .machine) xs
+
+abbrev machineAfter : Machine → List Made → Machine
+machineAfter m [] = m
+machineAfter m (x ∷ xs) = machineAfter (step m (x .call) .machine) xs
+
+abbrev headOr : Made → List Made → Made
+headOr d [] = d
+headOr d (x ∷ xs) = x
+
+abbrev tail : List Made → List Made
+tail [] = []
+tail (x ∷ xs) = xs
+
+runs : (xs : List Made) (m : Machine) → xs ≡ machineRun m (callsOf xs) → Runs m xs
+runs [] m e = tt
+runs (x ∷ xs) m e = (ap (headOr x) e, runs xs (step m (x .call) .machine) (ap tail e))
+
+runs-front : (xs ys : List Made) (m : Machine) → Runs m (xs ++ ys) → Runs m xs
+runs-front [] ys m r = tt
+runs-front (x ∷ xs) ys m r = (r .0, runs-front xs ys (step m (x .call) .machine) (r .1))
+
+runs-back : (xs ys : List Made) (m : Machine) → Runs m (xs ++ ys) → Runs (machineAfter m xs) ys
+runs-back [] ys m r = r
+runs-back (x ∷ xs) ys m r = runs-back xs ys (step m (x .call) .machine) (r .1)
+
+bytes-front : (xs ys : List Made) → AllBytes (xs ++ ys) → AllBytes xs
+bytes-front [] ys b = tt
+bytes-front (x ∷ xs) ys b = (b .0, bytes-front xs ys (b .1))
+
+log-append : (i : ℕ) (g : Log) (xs ys : List Made) → logAfter i g (xs ++ ys) ≡ logAfter i (logAfter i g xs) ys
+log-append i g [] ys = refl
+log-append i g (x ∷ xs) ys = log-append i (noted i g (did x)) xs ys
+
+-- ---- the invariant
+
+record Reached (m : Machine) (c : Seen) (g : ℕ → Log) : Type 0 where
+  pub good : AllGood (m .lines)
+  pub eight : length (m .lines) ≡ 8
+  pub card : c ≡ seen m
+  pub held : (i : ℕ) → Held (lineAt m i) (g i)
+
+perform-eight : (m : Machine) (text : List ℕ) (e : Effect) → length (perform m text e .machine .lines) ≡ length (m .lines)
+perform-eight m text (refuse k) = refl
+perform-eight m text (put i l size) = length-set (m .lines) i l
+perform-eight m text (crypt i n size) = length-set (m .lines) i _
+perform-eight m text (park i size) = length-set (m .lines) i idle
+
+-- what a call of the list did, from the machine at its place
+explained-at : (m : Machine) (x : Made) → x ≡ madeOf (x .call) (shows (step m (x .call))) → Explained m (x .call) (decide (public m) (x .call)) (did x)
+explained-at m x e = subst (λ (y : Made). Explained m (x .call) (decide (public m) (x .call)) (did y)) (sym e) (explained m (x .call))
+
+reached : (xs : List Made) (m : Machine) (c : Seen) (g : ℕ → Log) → Reached m c g → Runs m xs → AllBytes xs →
+    Reached (machineAfter m xs) (cardAfter c xs) (λ i. logAfter i (g i) xs)
+unfolding step
+reached [] m c g r h b = r
+reached (x ∷ xs) m c g r h b =
+    reached xs (step m (x .call) .machine) (x .card) (λ i. noted i (g i) (did x))
+    (record {
+      good = step-good m (r .good) (x .call) (b .0);
+      eight = perform-eight m (x .call .text) (decide (public m) (x .call)) ∙ r .eight;
+      card = ap (λ (y : Made). y .card) (h .0);
+      held = λ i. effect-held m (r .eight) (x .call) i (g i) (r .held i) (decide (public m) (x .call)) (did x) (explained-at m x (h .0));
+    })
+    (h .1) (b .1)
+
+pub fresh-seen : seen freshMachine ≡ freshCard
+fresh-seen = λ i. record { lines = replicate 8 (shown-idle i) }
+
+reached-fresh : Reached freshMachine freshCard (λ i. begun idle)
+reached-fresh = record { good = fresh-good; eight = refl; card = sym fresh-seen; held = λ i. subst (λ (l : MLine). Held l (begun idle)) (sym (none 8 i)) (begun-held idle) }
+  where
+    none : (k i : ℕ) → getD (replicate k idle) i idle ≡ idle
+    none zero i = refl
+    none (suc k) zero = refl
+    none (suc k) (suc i) = none k i
+
+-- ---- an open line is read back from its image
+
+sized : (l : MLine) → Good l → l .mode ≡ 1 → Sized (shown l)
+unfolding shown
+sized l good-idle e = absurd (let z : _≡_ {A = ℕ} 0 1 = e in omega arith)
+sized l (good-open m c p b f) e =
+    let w = state-fit l (unitAt l) f in
+    record { up = e; pos = omega (arith, p); twenty = w .twenty; words = w .words }
+
+-- ---- one call, by what it did
+
+record ParkWrote (m : Machine) (i : ℕ) (image : List ℕ) : Type 0 where
+  pub up : lineAt m i .mode ≡ 1
+  pub is : image ≡ imageOf (shown (lineAt m i))
+
+park-wrote : (m : Machine) (a : Call) (e : Effect) (d : Did) → Explained m a e d → (i : ℕ) (image : List ℕ) → d ≡ did-park i image → ParkWrote m i image
+park-wrote m a (refuse k) did-nothing was-refused i image q = absurd (let z : _≡_ {A = ℕ} 0 1 = cc in omega arith)
+park-wrote m a (put j _ size) (did-open _ _ _ _) (was-open n) i image q = absurd (let z : _≡_ {A = ℕ} 0 1 = cc in omega arith)
+park-wrote m a (crypt j k size) (did-crypt _ _ _) (was-crypt n h) i image q = absurd (let z : _≡_ {A = ℕ} 0 1 = cc in omega arith)
+park-wrote m a (park j size) (did-park _ w) (was-park n h) i image q =
+    let ej : j ≡ i = cc in
+    let ew : image ≡ w = cc in
+    record { up = subst (λ (x : ℕ). lineAt m x .mode ≡ 1) ej h; is = ew ∙ ap (λ (x : ℕ). imageOf (shown (lineAt m x))) ej }
+park-wrote m a (put j _ size) (did-resume _ _) (was-resume n) i image q = absurd (let z : _≡_ {A = ℕ} 0 1 = cc in omega arith)
+park-wrote m a (put j _ size) (did-close _) (was-close n) i image q = absurd (let z : _≡_ {A = ℕ} 0 1 = cc in omega arith)
+
+resume-set : (m : Machine) → length (m .lines) ≡ 8 → (a : Call) (e : Effect) (d : Did) → Explained m a e d → (j : ℕ) (image : List ℕ) → d ≡ did-resume j image →
+    lineAt (perform m (a .text) e .machine) j ≡ based (imageLine image)
+resume-set m eight a (refuse k) did-nothing was-refused j image q = absurd (let z : _≡_ {A = ℕ} 0 1 = cc in omega arith)
+resume-set m eight a (put i _ size) (did-open _ _ _ _) (was-open n) j image q = absurd (let z : _≡_ {A = ℕ} 0 1 = cc in omega arith)
+resume-set m eight a (crypt i k size) (did-crypt _ _ _) (was-crypt n h) j image q = absurd (let z : _≡_ {A = ℕ} 0 1 = cc in omega arith)
+resume-set m eight a (park i size) (did-park _ _) (was-park n h) j image q = absurd (let z : _≡_ {A = ℕ} 0 1 = cc in omega arith)
+resume-set m eight a (put i _ size) (did-resume _ w) (was-resume n) j image q =
+    let ei : j ≡ i = cc in
+    let ew : w ≡ image = cc in
+    let b = n .below in
+    ap (λ (x : ℕ). getD (set (m .lines) i (based (imageLine w))) x idle) ei
+    ∙ getD-set-same (m .lines) i (based (imageLine w)) idle (omega arith)
+    ∙ ap (λ (x : List ℕ). based (imageLine x)) ew
+resume-set m eight a (put i _ size) (did-close _) (was-close n) j image q = absurd (let z : _≡_ {A = ℕ} 0 1 = cc in omega arith)
+
+open-set : (m : Machine) → length (m .lines) ≡ 8 → (a : Call) (e : Effect) (d : Did) → Explained m a e d → (i c : ℕ) (key iv : List ℕ) → d ≡ did-open i c key iv →
+    lineAt (perform m (a .text) e .machine) i ≡ opened c key iv
+open-set m eight a (refuse k) did-nothing was-refused i c key iv q = absurd (let z : _≡_ {A = ℕ} 0 1 = cc in omega arith)
+open-set m eight a (put j _ size) (did-open _ c' k' v') (was-open n) i c key iv q =
+    let ej : i ≡ j = cc in
+    let ec : c' ≡ c = cc in
+    let ek : k' ≡ key = cc in
+    let ev : v' ≡ iv = cc in
+    let b = n .below in
+    ap (λ (x : ℕ). getD (set (m .lines) j (opened c' k' v')) x idle) ej
+    ∙ getD-set-same (m .lines) j (opened c' k' v') idle (omega arith)
+    ∙ (λ t. opened (ec t) (ek t) (ev t))
+open-set m eight a (crypt j k size) (did-crypt _ _ _) (was-crypt n h) i c key iv q = absurd (let z : _≡_ {A = ℕ} 0 1 = cc in omega arith)
+open-set m eight a (park j size) (did-park _ _) (was-park n h) i c key iv q = absurd (let z : _≡_ {A = ℕ} 0 1 = cc in omega arith)
+open-set m eight a (put j _ size) (did-resume _ _) (was-resume n) i c key iv q = absurd (let z : _≡_ {A = ℕ} 0 1 = cc in omega arith)
+open-set m eight a (put j _ size) (did-close _) (was-close n) i c key iv q = absurd (let z : _≡_ {A = ℕ} 0 1 = cc in omega arith)
+
+opened-shown : (c : ℕ) (key iv : List ℕ) → shown (opened c key iv) ≡ record { mode = 1; cipher = c; n = 0; words = cipherAt c .init key iv }
+unfolding shown opened stateOf stateAt iter unitAt
+opened-shown c key iv =
+    let d : 0 / genOf c .unit ≡ 0 = div-eq-of-lt (unit-pos c) in
+    let e : 0 / genOf c .unit - 0 ≡ 0 = omega (arith, d) in
+    λ j. record { mode = 1; cipher = c; n = 0; words = iter (e j) (genOf c .next) (cipherAt c .init key iv) }
+
+-- a call that is not an accepted one on line i
+module _ (m : Machine) (a : Call) (i : ℕ) where
+  abbrev Apart : Effect → Type 0
+  Apart e = perform m (a .text) e .outcome .code ≡ 0 → getD (a .command) 1 0 ≡ i → ⊥
+
+  kept : (j : ℕ) (l : MLine) → Names a j → (getD (a .command) 1 0 ≡ i → ⊥) → getD (set (m .lines) j l) i idle ≡ lineAt m i
+  kept j l n f = getD-set-other (m .lines) j i l idle (λ e. f (sym (e ∙ n .named)))
+
+  no-note : (j : ℕ) (g' g : Log) → Names a j → (getD (a .command) 1 0 ≡ i → ⊥) → pick (eqb j i) g' g ≡ g
+  no-note j g' g n f = ap (λ (b : Bool). pick b g' g) (ne-eqb j i (λ e. f (sym (n .named) ∙ e)))
+
+  other-line : (e : Effect) (d : Did) → Explained m a e d → Apart e → lineAt (perform m (a .text) e .machine) i ≡ lineAt m i
+  other-line (refuse k) did-nothing was-refused f = refl
+  other-line (put j _ size) (did-open _ _ _ _) (was-open n) f = kept j _ n (f refl)
+  other-line (crypt j k size) (did-crypt _ _ _) (was-crypt n h) f = kept j _ n (f refl)
+  other-line (park j size) (did-park _ _) (was-park n h) f = kept j idle n (f refl)
+  other-line (put j _ size) (did-resume _ _) (was-resume n) f = kept j _ n (f refl)
+  other-line (put j _ size) (did-close _) (was-close n) f = kept j idle n (f refl)
+
+  other-log : (e : Effect) (d : Did) → Explained m a e d → Apart e → (g : Log) → noted i g d ≡ g
+  other-log (refuse k) did-nothing was-refused f g = refl
+  other-log (put j _ size) (did-open _ _ _ _) (was-open n) f g = no-note j _ g n (f refl)
+  other-log (crypt j k size) (did-crypt _ _ _) (was-crypt n h) f g = no-note j _ g n (f refl)
+  other-log (park j size) (did-park _ _) (was-park n h) f g = no-note j _ g n (f refl)
+  other-log (put j _ size) (did-resume _ _) (was-resume n) f g = no-note j _ g n (f refl)
+  other-log (put j _ size) (did-close _) (was-close n) f g = no-note j _ g n (f refl)
+
+-- ---- the list
+
+module _ (xs : List Made) (is : xs ≡ machineRun freshMachine (callsOf xs)) (bytes : AllBytes xs) where
+  -- the place of a call in the list
+  record Place (before : List Made) (x : Made) : Type 0 where
+    pub at : Reached (machineAfter freshMachine before) (cardAfter freshCard before) (λ i. logOf i before)
+    pub run : x ≡ madeOf (x .call) (shows (step (machineAfter freshMachine before) (x .call)))
+    pub did-is : Explained (machineAfter freshMachine before) (x .call) (decide (public (machineAfter freshMachine before)) (x .call)) (did x)
+
+  place : (before after : List Made) (x : Made) → xs ≡ before ++ (x ∷ after) → Place before x
+  place before after x e =
+      let r = subst (Runs freshMachine) e (runs xs freshMachine is) in
+      let b = subst AllBytes e bytes in
+      let h = runs-back before (x ∷ after) freshMachine r in
+      record {
+        at = reached before freshMachine freshCard (λ i. begun idle) reached-fresh (runs-front before (x ∷ after) freshMachine r) (bytes-front before (x ∷ after) b);
+        run = h .0;
+        did-is = explained-at (machineAfter freshMachine before) x (h .0);
+      }
+
+  -- the line on the card after a call
+  line-after : (before : List Made) (x : Made) → Place before x → (i : ℕ) → lineOn (x .card) i ≡ shown (lineAt (step (machineAfter freshMachine before) (x .call) .machine) i)
+  line-after before x k i = ap (λ (y : Made). lineOn (y .card) i) (k .run) ∙ seen-at (step (machineAfter freshMachine before) (x .call) .machine) i
+
+  streams-at : (i : ℕ) → Streamed (lineOn (cardAfter freshCard xs) i) (logOf i xs)
+  streams-at i =
+      let r = reached xs freshMachine freshCard (λ i. begun idle) reached-fresh (runs xs freshMachine is) bytes in
+      subst (λ (l : Line). Streamed l (logOf i xs)) (sym (ap (λ (c : Seen). lineOn c i) (r .card) ∙ seen-at (machineAfter freshMachine xs) i))
+      (held-streamed (lineAt (machineAfter freshMachine xs) i) (logOf i xs) (r .held i))
+
+  from-key-at : {before : List Made} {x : Made} → Stands before x xs → (i c : ℕ) (key iv : List ℕ) → did x ≡ did-open i c key iv →
+      lineOn (x .card) i ≡ record { mode = 1; cipher = c; n = 0; words = cipherAt c .init key iv }
+  unfolding step
+  from-key-at {before = before} {x = x} s i c key iv dx =
+      let k = place before (s .after) x (s .is) in
+      line-after before x k i
+      ∙ ap shown (open-set (machineAfter freshMachine before) (k .at .eight) (x .call) _ (did x) (k .did-is) i c key iv dx) ∙ opened-shown c key iv
+
+  from-image-at : {before : List Made} {x : Made} → Stands before x xs → (j : ℕ) (image : List ℕ) → did x ≡ did-resume j image →
+      lineOn (x .card) j ≡ imageLine image
+  unfolding step
+  from-image-at {before = before} {x = x} s j image dx =
+      let k = place before (s .after) x (s .is) in
+      line-after before x k j
+      ∙ ap shown (resume-set (machineAfter freshMachine before) (k .at .eight) (x .call) _ (did x) (k .did-is) j image dx) ∙ shown-based (imageLine image)
+
+  goes-on-at : {before sofar : List Made} {p x : Made} → Stands sofar x xs → Stands before p sofar → (i j : ℕ) (image : List ℕ) →
+      did p ≡ did-park i image → did x ≡ did-resume j image →
+      GoesOn (standing (logOf i before)) (logOf j (sofar ++ (x ∷ [])) .start)
+  goes-on-at {before = before} {sofar = sofar} {p = p} {x = x} s t i j image dp dx =
+      let m = machineAfter freshMachine before in
+      let e : xs ≡ before ++ (p ∷ (t .after ++ (x ∷ s .after))) =
+      s .is ∙ ap (λ (l : List Made). l ++ (x ∷ s .after)) (t .is) ∙ append-assoc before (p ∷ t .after) (x ∷ s .after) in
+      let k = place before (t .after ++ (x ∷ s .after)) p e in
+      let w = park-wrote m (p .call) _ (did p) (k .did-is) i image dp in
+      let g = image-goes-on (lineAt m i) (good-behind (lineAt m i) (good-get (k .at .good) i)) (sized (lineAt m i) (good-get (k .at .good) i) (w .up)) image (w .is) in
+      let l : logOf j (sofar ++ (x ∷ [])) ≡ begun (based (imageLine image)) =
+      log-append j (begun idle) sofar (x ∷ []) ∙ ap (noted j (logOf j sofar)) dx
+      ∙ ap (λ (b : Bool). pick b (begun (based (imageLine image))) (logOf j sofar)) (eq-eqb j j refl) in
+      subst (λ (y : Log). GoesOn (standing (logOf i before)) (y .start)) (sym l)
+      (subst (λ (y : MLine). GoesOn y (based (imageLine image))) (k .at .held i .line) g)
+
+  others-at : {before : List Made} {x : Made} → Stands before x xs → (i : ℕ) → (On i x → ⊥) → Kept i before x
+  unfolding step
+  others-at {before = before} {x = x} s i apart =
+      let m = machineAfter freshMachine before in
+      let k = place before (s .after) x (s .is) in
+      let f : step m (x .call) .outcome .code ≡ 0 → getD (x .call .command) 1 0 ≡ i → ⊥ =
+      λ z n. apart (record { accepted = ap (λ (y : Made). y .code) (k .run) ∙ z; line = n }) in
+      record {
+        line =
+            line-after before x k i ∙ ap shown (other-line m (x .call) i _ (did x) (k .did-is) f)
+            ∙ sym (ap (λ (c : Seen). lineOn c i) (k .at .card) ∙ seen-at m i);
+        log = log-append i (begun idle) before (x ∷ []) ∙ other-log m (x .call) i _ (did x) (k .did-is) f (logOf i before);
+      }
+
+  pub machine-one-stream : OneStream xs
+  machine-one-stream =
+      record { machine-is = is; streams = streams-at; from-key = from-key-at; from-image = from-image-at; goes-on = goes-on-at; others = others-at }
+
+-- What it comes to: the outputs of a line up to its park and those of the line that goes on there, joined, are their inputs joined,
+-- enciphered with the one stream.
+pub joined-across : (g g' : Log) (l l' : Line) → Streamed l g → Streamed l' g' → GoesOn (standing g) (g' .start) →
+    g .outs ++ g' .outs ≡ xorFrom (byteOf (g .start)) (g .start .pos) (g .ins ++ g' .ins)
+unfolding moved byteOf
+joined-across g g' l l' s s' on =
+    let f = byteOf (g .start) in
+    let n = g .start .pos + length (g .ins) in
+    let p : g' .start .pos ≡ n = on .position in
+    let e : xorFrom (byteOf (g' .start)) (g' .start .pos) (g' .ins) ≡ xorFrom f n (g' .ins) =
+    xorFrom-agree (byteOf (g' .start)) f (g' .start .pos) n (g' .ins)
+    (λ i _. on .bytes (g' .start .pos + i) (omega (arith, p)) ∙ ap (λ (x : ℕ). f (x + i)) p) in
+    ap₂ _++_ (s .outputs) (s' .outputs ∙ e) ∙ sym (xorFrom-append f (g .start .pos) (g .ins) (g' .ins))
