@@ -11,8 +11,9 @@ use lib.ListN.{length, getD, take, drop, length-append, length-drop}
 use lib.Pow.{shl-shr}
 use lib.Seq.{take-at, drop-at, getD-append-add, length-take-le}
 use borrow.Author.Tests.{le-leb, leb-true, eqb-true, eq-eqb}
-use Rattle.words.specs.Lists.{All, none, more, Word}
+use Rattle.words.specs.Lists.{All, none, more, Word, tab}
 use Rattle.words.specs.Tests.{both, pick}
+use Rattle.words.proofs.Registers.{listed}
 use Rattle.words.proofs.Ranges.{all-append, all-drop, at-word}
 use Rattle.zuc.specs.Range as ZR
 use Rattle.zuc.specs.declared.Zuc.{Zuc}
@@ -215,3 +216,64 @@ kcipher2-range w e h =
       r2-word = at-word h 18;
       l2-word = at-word h 19;
     }
+
+-- ---- words that fit are those of the state that they hold
+
+module _ (w : List ℕ) (e : length w ≡ 20) where
+  all20 : w ≡ tab 20 (λ i. getD w i 0)
+  all20 = listed 20 w e
+
+  spare18 : twoSpare w ≡ true → getD w 18 0 ≡ 0
+  spare18 h = eqb-true (getD w 18 0) 0 (both-left (eqb (getD w 18 0) 0) (eqb (getD w 19 0) 0) h)
+
+  spare19 : twoSpare w ≡ true → getD w 19 0 ≡ 0
+  spare19 h = eqb-true (getD w 19 0) 0 (both-right (eqb (getD w 18 0) 0) (eqb (getD w 19 0) 0) h)
+
+zuc-literal : (f : ℕ → ℕ) → f 18 ≡ 0 → f 19 ≡ 0 → zucWords (zucState (tab 20 f)) ≡ tab 20 f
+unfolding zucWords zucState
+zuc-literal f h k = rw (h, k)
+
+pub zuc-held : (w : List ℕ) → Fit zuc w → zucWords (zucState w) ≡ w
+unfolding zuc
+zuc-held w h =
+    let s = both-right (areCells (take 16 w)) (twoSpare w) (h .admitted) in
+    ap (λ (x : List ℕ). zucWords (zucState x)) (all20 w (h .twenty))
+    ∙ zuc-literal (λ i. getD w i 0) (spare18 w (h .twenty) s) (spare19 w (h .twenty) s)
+    ∙ sym (all20 w (h .twenty))
+
+snow2-literal : (f : ℕ → ℕ) → f 18 ≡ 0 → f 19 ≡ 0 → snow2Words (snow2State (tab 20 f)) ≡ tab 20 f
+unfolding snow2Words snow2State
+snow2-literal f h k = rw (h, k)
+
+pub snow2-held : (w : List ℕ) → length w ≡ 20 → twoSpare w ≡ true → snow2Words (snow2State w) ≡ w
+snow2-held w e s =
+    ap (λ (x : List ℕ). snow2Words (snow2State x)) (all20 w e)
+    ∙ snow2-literal (λ i. getD w i 0) (spare18 w e s) (spare19 w e s)
+    ∙ sym (all20 w e)
+
+rabbit-literal : (f : ℕ → ℕ) → f 16 / 2 ^ 24 * 2 ^ 24 ≡ f 16 → f 17 ≡ 0 → f 18 ≡ 0 → f 19 ≡ 0 → rabbitWords (rabbitState (tab 20 f)) ≡ tab 20 f
+unfolding rabbitWords rabbitState
+rabbit-literal f c h k l = rw (c, h, k, l)
+
+pub rabbit-held : (w : List ℕ) → Fit rabbit w → rabbitWords (rabbitState w) ≡ w
+unfolding rabbit
+rabbit-held w h =
+    let e = h .twenty in
+    let t = both-left (pick (eqb (getD w 16 0) 0) true (eqb (getD w 16 0) (2 ^ 24))) _ (h .admitted) in
+    let r = both-right (pick (eqb (getD w 16 0) 0) true (eqb (getD w 16 0) (2 ^ 24))) _ (h .admitted) in
+    let s = both-right (eqb (getD w 17 0) 0) (twoSpare w) r in
+    ap (λ (x : List ℕ). rabbitWords (rabbitState x)) (all20 w e)
+    ∙ rabbit-literal (λ i. getD w i 0) (byte (getD w 16 0) (eqb (getD w 16 0) 0) refl t) (eqb-true (getD w 17 0) 0 (both-left (eqb (getD w 17 0) 0) (twoSpare w) r))
+    (spare18 w e s) (spare19 w e s)
+    ∙ sym (all20 w e)
+  where
+    byte : (x : ℕ) (b : Bool) → eqb x 0 ≡ b → pick b true (eqb x (2 ^ 24)) ≡ true → x / 2 ^ 24 * 2 ^ 24 ≡ x
+    byte x true e t = let z : x ≡ 0 = eqb-true x 0 e in rw z
+    byte x false e t = let z : x ≡ 2 ^ 24 = eqb-true x (2 ^ 24) t in rw z
+
+kcipher2-literal : (f : ℕ → ℕ) → kcipher2Words (kcipher2State (tab 20 f)) ≡ tab 20 f
+unfolding kcipher2Words kcipher2State
+kcipher2-literal f = refl
+
+pub kcipher2-held : (w : List ℕ) → length w ≡ 20 → kcipher2Words (kcipher2State w) ≡ w
+kcipher2-held w e = ap (λ (x : List ℕ). kcipher2Words (kcipher2State x)) (all20 w e) ∙ kcipher2-literal (λ i. getD w i 0) ∙ sym (all20 w e)

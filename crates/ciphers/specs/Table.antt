@@ -25,10 +25,23 @@ pub record Cipher : Type 0 where
   -- whether a state is one that number 8 admits
   pub admits : List ℕ → Bool
 
--- each word from 1 to 2^31 - 1
+-- a test that each element passes
+abbrev pub allOf : (ℕ → Bool) → List ℕ → Bool
+allOf t [] = true
+allOf t (x ∷ l) = both (t x) (allOf t l)
+
+-- from 1 to 2^31 - 1
+abbrev pub isCell : ℕ → Bool
+isCell x = both (leb 1 x) (leb x (2 ^ 31 - 1))
+
 abbrev pub areCells : List ℕ → Bool
-areCells [] = true
-areCells (x ∷ l) = both (both (leb 1 x) (leb x (2 ^ 31 - 1))) (areCells l)
+areCells l = allOf isCell l
+
+abbrev pub isZero : ℕ → Bool
+isZero x = eqb x 0
+
+abbrev pub allZero : List ℕ → Bool
+allZero l = allOf isZero l
 
 -- the words from 18 on are padding
 abbrev pub twoSpare : List ℕ → Bool

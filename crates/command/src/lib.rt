@@ -35,10 +35,15 @@ pub enum Decoded {
 
 // The lengths of the commands.
 pub const TRAY: usize = 20;
+
 pub const OWN: usize = 51;
+
 pub const CRYPT: usize = 4;
+
 pub const PARK: usize = 2;
+
 pub const RESUME: usize = 91;
+
 pub const CLOSE: usize = 2;
 
 fn wide(x: u8) -> usize

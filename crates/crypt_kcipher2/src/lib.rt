@@ -90,7 +90,18 @@ fn turns(
     let mut at: usize = 0;
     while at < count {
         let used = writer::least(8 - place, count - at);
-        cur = turn(cur, m0, m1, m2, m3, t, place, used, &text[at..], &mut out[at..]);
+        cur = turn(
+            cur,
+            m0,
+            m1,
+            m2,
+            m3,
+            t,
+            place,
+            used,
+            &text[at..],
+            &mut out[at..],
+        );
         place = (place + used) % 8;
         at += used;
     }

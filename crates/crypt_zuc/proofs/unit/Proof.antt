@@ -1,27 +1,15 @@
--- `crypt_zuc::unit` meets its contract: the word of keystream is written, and the unit is used up.
+-- `crypt_zuc::unit` meets its contract: the unit is written, and the state steps.
 -- Assumes nothing.
-use Prim.Native.Nat.{ℕ}
-use mathlib.Core.Path.{refl, ap}
-use lib.ListN.{getD}
-use native.Mathlib.Omega.{arith}
-use Rattle.words.specs.Strings.{bytesOf}
-use Rattle.keystream.proofs.Parts.{did-end}
-use Rattle.zuc.specs.Cipher.{unit}
-use Rattle.crypt_zuc.specs.Generator.{gen}
+use Rattle.crypt_zuc.proofs.Units.{did-unit}
 use borrow.Author.Needs.{needs}
 use Rattle.crypt_zuc.proofs.unit.Statement.{statement}
 use Rattle.crypt_zuc.proofs.unit.Tie as tie
 
 returns : tie.Need-returns
-unfolding gen unit
 returns c =
-    let w = c .before .before .before in
-    let k = w .before .before in
-    let a = k .before .before .before .args in
-    did-end gen (omega arith) 0 4 (a .st) (a .text .now) (a .out .now) _ (λ j. getD (bytesOf (k .output .result)) j 0)
-    (λ i h. ap (λ (x : ℕ). getD (bytesOf x) i 0) (k .output .ensures)) (omega arith) (w .put-word .ensures) refl (c .step .ensures)
+    let p = c .before .before .before in
+    did-unit (p .before .before .before .before .pre .1 .0) (p .put .ensures) (c .step .ensures)
 
 pub unit-spec : {M : Type 1} → statement M
 unit-spec =
-    tie.close (tie.spec (λ c κs. search needs) (λ c κs. search needs) (λ c κs. search needs) (λ c. search needs)
-    returns)
+    tie.close (tie.spec (λ c κs. search needs) (λ c κs. search needs) (search needs) returns)

@@ -1,0 +1,104 @@
+-- A cipher's crypt over its struct is its crypt over a line's words: a state's words hold it, and the words' Next and Strm are the state's. Said once for any two
+-- generators, and then of each cipher.
+-- Assumes nothing.
+use mathlib.Core.Path.{_≡_, refl, ap, sym, subst, _∙_}
+use mathlib.Core.List.{List, _++_}
+use Prim.Native.Nat.{ℕ, zero, suc, _+_, _/_, _<_, _≤_}
+use Rattle.words.specs.Lists.{iter}
+use lib.ListN.{length, drop}
+use Rattle.keystream.specs.Stream.{Gen, stateAt, byteAt, xorFrom}
+use Rattle.keystream.proofs.Laws.{xorFrom-agree}
+use Rattle.keystream.proofs.Parts.{stateAt-along, byteAt-along}
+use Rattle.zuc.specs.Cipher as Z
+use Rattle.zuc.specs.Range as ZR
+use Rattle.zuc.specs.declared.Zuc.{Zuc}
+use Rattle.zuc.proofs.Ranges as ZL
+use Rattle.rabbit.specs.Cipher as R
+use Rattle.rabbit.specs.Range as RR
+use Rattle.rabbit.specs.declared.Rabbit.{Rabbit}
+use Rattle.rabbit.proofs.Ranges as RL
+use Rattle.snow2.specs.Cipher as S
+use Rattle.snow2.specs.Range as SR
+use Rattle.snow2.specs.declared.Snow2.{Snow2}
+use Rattle.snow2.proofs.Ranges as SL
+use Rattle.kcipher2.specs.Cipher as K
+use Rattle.kcipher2.specs.Range as KR
+use Rattle.kcipher2.specs.declared.Kcipher2.{Kcipher2}
+use Rattle.kcipher2.proofs.Ranges as KL
+use Rattle.crypt_zuc.specs.Generator.{gen as zucGen}
+use Rattle.crypt_rabbit.specs.Generator.{gen as rabbitGen}
+use Rattle.crypt_snow2.specs.Generator.{gen as snow2Gen}
+use Rattle.crypt_kcipher2.specs.Generator.{gen as kcipher2Gen}
+use Rattle.ciphers.specs.States.{zucWords, zucState, rabbitWords, rabbitState, snow2Words, snow2State, kcipher2Words, kcipher2State}
+use Rattle.ciphers.specs.Table.{zuc, rabbit, snow128, kcipher2}
+use Rattle.ciphers.specs.Fit.{Fit}
+use Rattle.ciphers.proofs.States.{zuc-back, zuc-range, zuc-held, rabbit-back, rabbit-range, rabbit-held, snow2-back, snow2-range, snow2-held, kcipher2-back, kcipher2-range, kcipher2-held}
+
+-- what a crypt gives, as two equations
+abbrev pub Gives : {S : Type 0} → Gen S → S → ℕ → List ℕ → List ℕ → S → List ℕ → Type 0
+Gives g s skip text out s' out' =
+    (s' ≡ stateAt g s 0 ((skip + length text) / g .unit)) × (out' ≡ xorFrom (byteAt g s 0) skip text ++ drop (length text) out)
+
+module _ {S T : Type 0} (g : Gen S) (h : Gen T) (f : S → T) (P : S → Type 0) (keeps : (s : S) → P s → P (g .next s))
+    (same-unit : g .unit ≡ h .unit) (same-next : (s : S) → P s → f (g .next s) ≡ h .next (f s)) (same-strm : (s : S) → P s → g .strm s ≡ h .strm (f s)) where
+  gives-along : (skip : ℕ) (text out : List ℕ) {s₀ s s' : S} {w w' : T} {out' : List ℕ} → P s₀ → f s₀ ≡ w → s ≡ s₀ → w' ≡ f s' → Gives g s skip text out s' out'
+      → Gives h w skip text out w' out'
+  gives-along skip text out {s₀} {s} {s'} {w} p₀ e₀ q q' d =
+      let p : P s = subst P (sym q) p₀ in
+      let e : f s ≡ w = ap f q ∙ e₀ in (
+        q'
+            ∙ ap f (d .0)
+            ∙ stateAt-along g h f P keeps same-unit same-next same-strm s 0 _ p
+            ∙ ap (λ (x : T). stateAt h x 0 ((skip + length text) / g .unit)) e
+            ∙ ap (λ (u : ℕ). stateAt h w 0 ((skip + length text) / u)) same-unit,
+        d .1
+            ∙ ap (λ (x : List ℕ). x ++ drop (length text) out)
+            (xorFrom-agree (byteAt g s 0) (byteAt h w 0) skip skip text
+            (λ i _. byteAt-along g h f P keeps same-unit same-next same-strm s 0 (skip + i) p ∙ ap (λ (x : T). byteAt h x 0 (skip + i)) e)),
+      )
+
+-- what Next keeps holds of every later state
+iter-keeps : {S : Type 0} (P : S → Type 0) (next : S → S) → ((s : S) → P s → P (next s)) → (k : ℕ) (s : S) → P s → P (iter k next s)
+unfolding iter
+iter-keeps P next keeps zero s p = p
+iter-keeps P next keeps (suc k) s p = keeps (iter k next s) (iter-keeps P next keeps k s p)
+
+-- ---- each cipher
+
+pub zuc-along : (skip : ℕ) (text out : List ℕ) {w w' : List ℕ} {s s' : Zuc} {out' : List ℕ} → Fit zuc w → s ≡ zucState w → w' ≡ zucWords s'
+    → Gives zucGen s skip text out s' out' → Gives (zuc .gen) w skip text out w' out'
+unfolding zuc zucGen
+zuc-along skip text out {w} h q q' d =
+    gives-along zucGen (zuc .gen) zucWords ZR.InRange ZL.next-range refl
+    (λ s r. ap (λ (x : Zuc). zucWords (Z.next x)) (sym (zuc-back s (r .sixteen)))) (λ s r. ap Z.unit (sym (zuc-back s (r .sixteen)))) skip text out
+    (zuc-range w h) (zuc-held w h) q q' d
+
+pub rabbit-along : (skip : ℕ) (text out : List ℕ) {w w' : List ℕ} {s s' : Rabbit} {out' : List ℕ} → Fit rabbit w → s ≡ rabbitState w → w' ≡ rabbitWords s'
+    → Gives rabbitGen s skip text out s' out' → Gives (rabbit .gen) w skip text out w' out'
+unfolding rabbit rabbitGen
+rabbit-along skip text out {w} h q q' d =
+    gives-along rabbitGen (rabbit .gen) rabbitWords RR.InRange RL.next-range refl
+    (λ s r. ap (λ (x : Rabbit). rabbitWords (R.next x)) (sym (rabbit-back s (r .eight-x) (r .eight-c)))) (λ s r. ap R.unit (sym (rabbit-back s (r .eight-x) (r .eight-c)))) skip text out
+    (rabbit-range w h) (rabbit-held w h) q q' d
+
+pub snow2-along : (skip : ℕ) (text out : List ℕ) {w w' : List ℕ} {s s' : Snow2} {out' : List ℕ} → Fit snow128 w → s ≡ snow2State w → w' ≡ snow2Words s'
+    → Gives snow2Gen s skip text out s' out' → Gives (snow128 .gen) w skip text out w' out'
+unfolding snow128 snow2Gen
+snow2-along skip text out {w} h q q' d =
+    gives-along snow2Gen (snow128 .gen) snow2Words SR.InRange SL.next-range refl
+    (λ s r. ap (λ (x : Snow2). snow2Words (S.next x)) (sym (snow2-back s (r .sixteen)))) (λ s r. ap S.unit (sym (snow2-back s (r .sixteen)))) skip text out
+    (snow2-range w (h .twenty) (h .words)) (snow2-held w (h .twenty) (h .admitted)) q q' d
+
+pub kcipher2-along : (skip : ℕ) (text out : List ℕ) {w w' : List ℕ} {s s' : Kcipher2} {out' : List ℕ} → Fit kcipher2 w → s ≡ kcipher2State w → w' ≡ kcipher2Words s'
+    → Gives kcipher2Gen s skip text out s' out' → Gives (kcipher2 .gen) w skip text out w' out'
+unfolding kcipher2 kcipher2Gen
+kcipher2-along skip text out {w} h q q' d =
+    gives-along kcipher2Gen (kcipher2 .gen) kcipher2Words KR.InRange KL.next-range refl
+    (λ s r. ap (λ (x : Kcipher2). kcipher2Words (K.next x)) (sym (kcipher2-back s (r .five) (r .eleven)))) (λ s r. ap K.unit (sym (kcipher2-back s (r .five) (r .eleven)))) skip text out
+    (kcipher2-range w (h .twenty) (h .words)) (kcipher2-held w (h .twenty)) q q' d
+
+-- the carry after a crypt is 0 or 1
+pub rabbit-carry : (skip : ℕ) (text out : List ℕ) {w : List ℕ} {s s' : Rabbit} {out' : List ℕ} → Fit rabbit w → s ≡ rabbitState w → Gives rabbitGen s skip text out s' out' → s' .b ≤ 1
+unfolding rabbitGen stateAt
+rabbit-carry skip text out {w} {s} h q d =
+    subst RR.InRange (sym (d .0)) (iter-keeps RR.InRange R.next RL.next-range _ s (subst RR.InRange (sym q) (rabbit-range w h))) .carry

@@ -1,0 +1,74 @@
+-- `dispatch::crypt` meets its contract: each arm is a row of the table of ciphers, and both key lengths of SNOW 2.0 go on alike.
+-- Assumes nothing.
+use borrow.Author.Needs.{needs}
+use Rattle.dispatch.proofs.crypt.Statement.{statement}
+use Rattle.dispatch.proofs.crypt.Tie as tie
+use denote.Ref.{now}
+use Rattle.ciphers.specs.Table.{zuc, rabbit, snow128, snow256, kcipher2}
+use Rattle.dispatch.proofs.Numbers.{is-zuc, is-rabbit, is-snow128, is-snow256, is-kcipher2, asks, gives}
+
+crypt-requires : tie.Need-crypt-requires
+unfolding zuc
+crypt-requires c κs =
+    let q = c .before .before .before .before .pre in
+    asks (is-zuc (c .before .match .keys1)) (q .0, (q .1 .0, search needs))
+
+crypt-requires-2 : tie.Need-crypt-requires-2
+unfolding rabbit
+crypt-requires-2 c κs =
+    let q = c .before .before .before .before .pre in
+    asks (is-rabbit (c .before .match .keys2)) (q .0, (q .1 .0, search needs))
+
+crypt-requires-3 : tie.Need-crypt-requires-3
+unfolding snow128
+crypt-requires-3 c κs =
+    let q = c .before .before .before .before .pre in
+    asks (is-snow128 (c .before .match .keys3)) (q .0, (q .1 .0, search needs))
+
+crypt-requires-4 : tie.Need-crypt-requires-4
+unfolding snow128 snow256
+crypt-requires-4 c κs =
+    let q = c .before .before .before .before .pre in
+    asks (is-snow256 (c .before .match .keys4)) (q .0, (q .1 .0, search needs))
+
+crypt-requires-5 : tie.Need-crypt-requires-5
+unfolding kcipher2
+crypt-requires-5 c κs =
+    let q = c .before .before .before .before .pre in
+    asks (let r = c .before .match .rest in is-kcipher2 (r .0 .0 .0 .1) (r .0 .0 .1) (r .0 .1) (r .1)) (q .0, (q .1 .0, search needs))
+
+returns : tie.Need-returns
+unfolding zuc
+returns c =
+    let a = c .before .before .before .before .before .before .before .args in
+    gives (a .skip) (now (a .text)) (now (a .out)) (a .w) _ _ (is-zuc (c .before .before .before .before .match .keys1)) (c .before .before .crypt .ensures)
+
+returns-2 : tie.Need-returns-2
+unfolding rabbit
+returns-2 c =
+    let a = c .before .before .before .before .before .before .before .args in
+    gives (a .skip) (now (a .text)) (now (a .out)) (a .w) _ _ (is-rabbit (c .before .before .before .before .match .keys2)) (c .before .before .crypt2 .ensures)
+
+returns-3 : tie.Need-returns-3
+unfolding snow128
+returns-3 c =
+    let a = c .before .before .before .before .before .before .before .args in
+    gives (a .skip) (now (a .text)) (now (a .out)) (a .w) _ _ (is-snow128 (c .before .before .before .before .match .keys3)) (c .before .before .crypt3 .ensures)
+
+returns-4 : tie.Need-returns-4
+unfolding snow128 snow256
+returns-4 c =
+    let a = c .before .before .before .before .before .before .before .args in
+    gives (a .skip) (now (a .text)) (now (a .out)) (a .w) _ _ (is-snow256 (c .before .before .before .before .match .keys4)) (c .before .before .crypt4 .ensures)
+
+returns-5 : tie.Need-returns-5
+unfolding kcipher2
+returns-5 c =
+    let a = c .before .before .before .before .before .before .before .args in
+    gives (a .skip) (now (a .text)) (now (a .out)) (a .w) _ _ (let r = c .before .before .before .before .match .rest in is-kcipher2 (r .0 .0 .0 .1) (r .0 .0 .1) (r .0 .1) (r .1)) (c .before .before .crypt5 .ensures)
+
+pub crypt-spec : {M : Type 1} → statement M
+crypt-spec =
+    tie.close
+    (tie.spec crypt-requires crypt-requires-2 crypt-requires-3 crypt-requires-4 crypt-requires-5 (λ c. search needs) returns (λ c. search needs)
+    returns-2 (λ c. search needs) returns-3 (λ c. search needs) returns-4 (λ c. search needs) returns-5)

@@ -1,0 +1,17 @@
+-- `snow2_words::open128` meets its contract: the words are those of the cipher's S(0).
+-- Assumes nothing.
+use borrow.Author.Needs.{needs}
+use Rattle.dispatch.proofs.snow2_words.open128.Statement.{statement}
+use Rattle.dispatch.proofs.snow2_words.open128.Tie as tie
+use mathlib.Core.Path.{ap, _∙_}
+use Rattle.ciphers.specs.States.{snow2Words}
+use Rattle.ciphers.specs.Table.{snow128}
+
+returns : tie.Need-returns
+unfolding snow128
+returns c = c .words .ensures ∙ ap snow2Words (c .before .init128 .ensures)
+
+pub open128-spec : {M : Type 1} → statement M
+open128-spec =
+    tie.close
+    (tie.spec (λ c κs. search needs) (λ c κs. search needs) (λ c κs. search needs) (λ c κs. search needs) (λ c κs. search needs) returns)

@@ -1,0 +1,17 @@
+-- `snow2_words::open256` meets its contract: the words are those of the cipher's S(0).
+-- Assumes nothing.
+use borrow.Author.Needs.{needs}
+use Rattle.dispatch.proofs.snow2_words.open256.Statement.{statement}
+use Rattle.dispatch.proofs.snow2_words.open256.Tie as tie
+use mathlib.Core.Path.{ap, _∙_}
+use Rattle.ciphers.specs.States.{snow2Words}
+use Rattle.ciphers.specs.Table.{snow256}
+
+returns : tie.Need-returns
+unfolding snow256
+returns c = c .words .ensures ∙ ap snow2Words (c .before .init256 .ensures)
+
+pub open256-spec : {M : Type 1} → statement M
+open256-spec =
+    tie.close
+    (tie.spec (λ c κs. search needs) (λ c κs. search needs) (λ c κs. search needs) (λ c κs. search needs) (λ c κs. search needs) returns)

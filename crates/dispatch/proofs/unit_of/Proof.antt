@@ -1,0 +1,31 @@
+-- `dispatch::unit_of` meets its contract: each arm is a row of the table of ciphers.
+-- Assumes nothing.
+use Rattle.dispatch.proofs.unit_of.Statement.{statement}
+use Rattle.dispatch.proofs.unit_of.Tie as tie
+use mathlib.Core.Path.{ap, sym}
+use Rattle.ciphers.specs.Table.{Cipher, zuc, rabbit, snow128, snow256, kcipher2}
+use Rattle.dispatch.proofs.Numbers.{is-zuc, is-rabbit, is-snow128, is-snow256, is-kcipher2}
+
+returns : tie.Need-returns
+unfolding zuc
+returns c = ap (λ (d : Cipher). d .gen .unit) (sym (is-zuc (c .match .keys1)))
+
+returns-2 : tie.Need-returns-2
+unfolding rabbit
+returns-2 c = ap (λ (d : Cipher). d .gen .unit) (sym (is-rabbit (c .match .keys2)))
+
+returns-3 : tie.Need-returns-3
+unfolding snow128
+returns-3 c = ap (λ (d : Cipher). d .gen .unit) (sym (is-snow128 (c .match .keys3)))
+
+returns-4 : tie.Need-returns-4
+unfolding snow256
+returns-4 c = ap (λ (d : Cipher). d .gen .unit) (sym (is-snow256 (c .match .keys4)))
+
+returns-5 : tie.Need-returns-5
+unfolding kcipher2
+returns-5 c = ap (λ (d : Cipher). d .gen .unit) (sym (let r = c .match .rest in is-kcipher2 (r .0 .0 .0 .1) (r .0 .0 .1) (r .0 .1) (r .1)))
+
+pub unit-of-spec : {M : Type 1} → statement M
+unit-of-spec = tie.close
+    (tie.spec returns returns-2 returns-3 returns-4 returns-5)

@@ -1,0 +1,20 @@
+-- `zuc_words::crypt` meets its contract: a crypt over the state that the words hold is one over the words.
+-- Assumes nothing.
+use borrow.Author.Needs.{needs}
+use Rattle.dispatch.proofs.zuc_words.crypt.Statement.{statement}
+use Rattle.dispatch.proofs.zuc_words.crypt.Tie as tie
+use denote.Ref.{now}
+use Rattle.dispatch.proofs.Literals.{fit-of}
+use Rattle.ciphers.specs.Table.{zuc}
+use Rattle.crypt_zuc.specs.Generator.{gen as zucGen}
+use Rattle.dispatch.proofs.Along.{zuc-along}
+
+returns : tie.Need-returns
+unfolding zuc zucGen
+returns c =
+    let a = c .before .before .before .before .before .before .before .before .args in
+    zuc-along (a .skip) (now (a .text)) (now (a .out)) (fit-of (a .w) (c .before .before .before .before .before .before .before .before .good .0 .0) (c .before .before .before .before .before .before .before .before .good .0 .1 .1) (c .before .before .before .before .before .before .before .before .good .0 .1 .0 .1) (c .before .before .before .before .before .before .before .before .pre .0)) (c .before .before .before .before .before .state .ensures) (c .words .ensures) (c .before .before .before .crypt .ensures)
+
+pub crypt-spec : {M : Type 1} → statement M
+crypt-spec = tie.close
+    (tie.spec (λ c κs. search needs) (λ c κs. search needs) (λ c κs. search needs) (λ c. search needs) returns)

@@ -1,0 +1,99 @@
+// What a line does by its cipher: S(0) of key and IV, and a crypt from a byte of a unit on, each over the line's twenty words.
+// A caller holds the lengths of key and IV, a state that the cipher admits, a place within a unit, and a buffer as long as the text.
+mod kcipher2_words;
+mod rabbit_words;
+mod snow2_words;
+mod zuc_words;
+
+ghost use mathlib.Core.Path.{_≡_};
+ghost use mathlib.Core.Bool.{true};
+ghost use mathlib.Core.List.{_++_};
+ghost use Prim.Native.Nat.{_+_, _/_, _<_, _≤_};
+ghost use lib.ListN.{length, drop};
+ghost use Rattle.keystream.specs.Stream.{stateAt, byteAt, xorFrom};
+ghost use Rattle.ciphers.specs.Table.{cipherAt};
+ghost use Rattle.command.specs.Decode.{numberOf};
+use command::Cipher;
+
+// The unit of a cipher, in bytes.
+pub fn unit_of(c: u8) -> usize
+    ensures { λ r. ⌜ r ≡ cipherAt c .gen .unit ⌝ }
+{
+    match c {
+        1 => 4,
+        2 => 16,
+        3 => 4,
+        4 => 4,
+        _ => 8,
+    }
+}
+
+// The bytes of a cipher's key.
+pub fn key_of(c: Cipher) -> usize
+    ensures { λ r. ⌜ r ≡ cipherAt (numberOf c) .key ⌝ }
+{
+    match c {
+        Cipher::Zuc => 16,
+        Cipher::Rabbit => 16,
+        Cipher::Snow128 => 16,
+        Cipher::Snow256 => 32,
+        Cipher::Kcipher2 => 16,
+    }
+}
+
+// The bytes of a cipher's IV.
+pub fn iv_of(c: Cipher) -> usize
+    ensures { λ r. ⌜ r ≡ cipherAt (numberOf c) .iv ⌝ }
+{
+    match c {
+        Cipher::Zuc => 16,
+        Cipher::Rabbit => 8,
+        Cipher::Snow128 => 16,
+        Cipher::Snow256 => 16,
+        Cipher::Kcipher2 => 16,
+    }
+}
+
+// The number of a cipher.
+pub fn number_of(c: Cipher) -> u8
+    ensures { λ r. ⌜ r ≡ numberOf c ⌝ }
+{
+    match c {
+        Cipher::Zuc => 1,
+        Cipher::Rabbit => 2,
+        Cipher::Snow128 => 3,
+        Cipher::Snow256 => 4,
+        Cipher::Kcipher2 => 5,
+    }
+}
+
+// S(0) of key and IV.
+pub fn open(c: Cipher, key: &[u8], iv: &[u8]) -> [u32; 20]
+    requires { ⌜ length (now key) ≡ cipherAt (numberOf c) .key ⌝ }
+    requires { ⌜ length (now iv) ≡ cipherAt (numberOf c) .iv ⌝ }
+    ensures { λ r. ⌜ r ≡ cipherAt (numberOf c) .init (now (key .entry)) (now (iv .entry)) ⌝ }
+{
+    match c {
+        Cipher::Zuc => zuc_words::open(key, iv),
+        Cipher::Rabbit => rabbit_words::open(key, iv),
+        Cipher::Snow128 => snow2_words::open128(key, iv),
+        Cipher::Snow256 => snow2_words::open256(key, iv),
+        Cipher::Kcipher2 => kcipher2_words::open(key, iv),
+    }
+}
+
+// The text goes to the start of out, XORed with the keystream from byte skip of the unit of the words' state on; the words that come back hold the state of the
+// unit in which the next byte lies.
+pub fn crypt(c: u8, w: [u32; 20], skip: usize, text: &[u8], out: &mut [u8]) -> [u32; 20]
+    requires { ⌜ cipherAt c .admits w ≡ true ⌝ }
+    requires { ⌜ (skip < cipherAt c .gen .unit) × (length (now text) ≤ length (now out)) ⌝ }
+    ensures { λ r. ⌜ (r ≡ stateAt (cipherAt c .gen) w 0 ((skip + length (now (text .entry))) / cipherAt c .gen .unit)) × (now (out .exit) ≡ xorFrom (byteAt (cipherAt c .gen) w 0) skip (now (text .entry)) ++ drop (length (now (text .entry))) (now (out .entry))) ⌝ }
+{
+    match c {
+        1 => zuc_words::crypt(w, skip, text, out),
+        2 => rabbit_words::crypt(w, skip, text, out),
+        3 => snow2_words::crypt(w, skip, text, out),
+        4 => snow2_words::crypt(w, skip, text, out),
+        _ => kcipher2_words::crypt(w, skip, text, out),
+    }
+}
