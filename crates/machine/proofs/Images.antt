@@ -27,6 +27,7 @@ word-past p s n k e = rw (here, at 1, at 2, at 3)
     at j =
         let q : n + k + j ≡ length p + (k + j) = omega arith in
         ap (λ (i : ℕ). getD (p ++ s) i 0) q ∙ getD-append-add p s (k + j) 0
+
     here : getD (p ++ s) (n + k) 0 ≡ getD s k 0
     here = let q : n + k ≡ length p + k = omega arith in ap (λ (i : ℕ). getD (p ++ s) i 0) q ∙ getD-append-add p s k 0
 

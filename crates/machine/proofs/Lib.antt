@@ -5,3 +5,5 @@ pub mod Images
 pub mod Explained
 pub mod Streams
 pub mod OneStream
+pub mod Codes
+pub mod Deciphers

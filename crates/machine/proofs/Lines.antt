@@ -22,7 +22,7 @@ use Rattle.ciphers.proofs.Tests.{both-left, both-right, both-true}
 use Rattle.ciphers.proofs.Sound.{Sound, sound}
 use Rattle.ciphers.proofs.States.{all-take}
 use Rattle.line.specs.declared.Line.{Line}
-use Rattle.machine.specs.Machine.{MLine, idle, idleLine, genOf, genAt, unitAt, stateOf, byteOf, shown, based, enciphered, moved, opened, imageLine, imageIn, limit, openOk, idleOk, lineOk, allOk, allZero}
+use Rattle.machine.specs.Machine.{MLine, idle, idleLine, genOf, genAt, unitAt, stateOf, byteOf, shown, based, enciphered, moved, opened, imageLine, imageIn, limit, openOk, idleOk, lineOk, allOk}
 
 pub unit-pos : (c : ℕ) → zero < genOf c .unit
 unit-pos c = sound c .unit-pos

@@ -6,9 +6,9 @@ use mathlib.Core.List.{List, [], _∷_, _++_, append-assoc}
 use Prim.Native.Nat.{ℕ, zero, suc, _+_, _-_, _/_, _≤_, _^_}
 use native.Mathlib.Nat.{div-eq-of-lt}
 use native.Mathlib.Omega.{arith}
-use lib.Dec.{eqb}
+use lib.Dec.{eqb, lit≤}
 use lib.ListN.{length, getD, set, length-set, replicate}
-use lib.Seq.{getD-set-same, getD-set-other}
+use lib.Seq.{length-take-le, getD-set-same, getD-set-other}
 use borrow.Author.Tests.{eq-eqb, ne-eqb}
 use Rattle.words.specs.Lists.{iter}
 use Rattle.words.specs.Tests.{pick}
@@ -17,12 +17,13 @@ use Rattle.keystream.proofs.Laws.{xorFrom-append, xorFrom-agree}
 use Rattle.ciphers.specs.Table.{cipherAt}
 use Rattle.line.specs.declared.Line.{Line}
 use Rattle.machine.specs.Machine.{MLine, Machine, Seen, lineAt, idle, idleLine, genOf, unitAt, stateOf, byteOf, moved, shown, based, opened, limit, imageOf, imageLine, Call, Effect, refuse, put, crypt, park, public, decide, perform, step, seen, shows, freshMachine, freshCard}
-use Rattle.machine.specs.Logs.{Made, madeOf, machineRun, callsOf, cardAfter, lineOn, Did, did-nothing, did-open, did-crypt, did-park, did-resume, did-close, did, Log, begun, noted, logAfter, logOf, standing}
-use Rattle.machine.specs.OneStream.{AllBytes, Streamed, GoesOn, On, Kept, Stands, OneStream}
+use Rattle.machine.specs.Logs.{Made, madeOf, machineRun, callsOf, cardAfter, lineOn, Did, did-nothing, did-open, did-crypt, did-park, did-resume, did-close, did, Log, begun, joined, noted, logAfter, logOf, standing}
+use Rattle.machine.specs.OneStream.{AllBytes, Streamed, GoesOn, On, Kept, Stands, OneStream, Takes, Counted}
 use Rattle.machine.proofs.Lines.{unit-pos, Good, good-idle, good-open, good-behind, shown-idle, shown-based, state-fit}
 use Rattle.machine.proofs.Simulation.{AllGood, good-get, step-good, fresh-good}
 use Rattle.machine.proofs.Images.{Sized, image-goes-on}
 use Rattle.machine.proofs.Explained.{Names, Explained, was-refused, was-open, was-crypt, was-park, was-resume, was-close, explained}
+use Rattle.machine.proofs.Codes.{code-small}
 use Rattle.machine.proofs.Streams.{Held, begun-held, effect-held, seen-at, held-streamed}
 
 -- ---- a list that is the machine's, call by call
@@ -108,7 +109,7 @@ reached-fresh = record { good = fresh-good; eight = refl; card = sym fresh-seen;
 
 -- ---- an open line is read back from its image
 
-sized : (l : MLine) → Good l → l .mode ≡ 1 → Sized (shown l)
+pub sized : (l : MLine) → Good l → l .mode ≡ 1 → Sized (shown l)
 unfolding shown
 sized l good-idle e = absurd (let z : _≡_ {A = ℕ} 0 1 = e in omega arith)
 sized l (good-open m c p b f) e =
@@ -131,6 +132,25 @@ park-wrote m a (park j size) (did-park _ w) (was-park n h) i image q =
     record { up = subst (λ (x : ℕ). lineAt m x .mode ≡ 1) ej h; is = ew ∙ ap (λ (x : ℕ). imageOf (shown (lineAt m x))) ej }
 park-wrote m a (put j _ size) (did-resume _ _) (was-resume n) i image q = absurd (let z : _≡_ {A = ℕ} 0 1 = cc in omega arith)
 park-wrote m a (put j _ size) (did-close _) (was-close n) i image q = absurd (let z : _≡_ {A = ℕ} 0 1 = cc in omega arith)
+
+crypt-set : (m : Machine) → length (m .lines) ≡ 8 → (a : Call) (e : Effect) (d : Did) → Explained m a e d → (i : ℕ) (input output : List ℕ) → d ≡ did-crypt i input output →
+    lineAt (perform m (a .text) e .machine) i ≡ moved (lineAt m i) (length input)
+crypt-set m eight a (refuse k) did-nothing was-refused i input output q = absurd (let z : _≡_ {A = ℕ} 0 1 = cc in omega arith)
+crypt-set m eight a (put j _ size) (did-open _ _ _ _) (was-open n) i input output q = absurd (let z : _≡_ {A = ℕ} 0 1 = cc in omega arith)
+crypt-set m eight a (crypt j k size) (did-crypt _ w _) (was-crypt n h) i input output q =
+    let ej : i ≡ j = cc in
+    let ew : w ≡ input = cc in
+    let b = n .below in
+    ap (λ (x : ℕ). getD (set (m .lines) j (moved (lineAt m j) k)) x idle) ej
+    ∙ getD-set-same (m .lines) j (moved (lineAt m j) k) idle (omega arith)
+    ∙ ap₂ (λ (x : ℕ) (y : ℕ). moved (lineAt m x) y) (sym ej) (sym (length-take-le k (a .text) h) ∙ ap length ew)
+crypt-set m eight a (park j size) (did-park _ _) (was-park n h) i input output q = absurd (let z : _≡_ {A = ℕ} 0 1 = cc in omega arith)
+crypt-set m eight a (put j _ size) (did-resume _ _) (was-resume n) i input output q = absurd (let z : _≡_ {A = ℕ} 0 1 = cc in omega arith)
+crypt-set m eight a (put j _ size) (did-close _) (was-close n) i input output q = absurd (let z : _≡_ {A = ℕ} 0 1 = cc in omega arith)
+
+good-within : (l : MLine) → Good l → l .pos ≤ limit
+good-within l good-idle = lit≤ tt
+good-within l (good-open m c p b f) = p
 
 resume-set : (m : Machine) → length (m .lines) ≡ 8 → (a : Call) (e : Effect) (d : Did) → Explained m a e d → (j : ℕ) (image : List ℕ) → d ≡ did-resume j image →
     lineAt (perform m (a .text) e .machine) j ≡ based (imageLine image)
@@ -164,7 +184,7 @@ open-set m eight a (park j size) (did-park _ _) (was-park n h) i c key iv q = ab
 open-set m eight a (put j _ size) (did-resume _ _) (was-resume n) i c key iv q = absurd (let z : _≡_ {A = ℕ} 0 1 = cc in omega arith)
 open-set m eight a (put j _ size) (did-close _) (was-close n) i c key iv q = absurd (let z : _≡_ {A = ℕ} 0 1 = cc in omega arith)
 
-opened-shown : (c : ℕ) (key iv : List ℕ) → shown (opened c key iv) ≡ record { mode = 1; cipher = c; n = 0; words = cipherAt c .init key iv }
+pub opened-shown : (c : ℕ) (key iv : List ℕ) → shown (opened c key iv) ≡ record { mode = 1; cipher = c; n = 0; words = cipherAt c .init key iv }
 unfolding shown opened stateOf stateAt iter unitAt
 opened-shown c key iv =
     let d : 0 / genOf c .unit ≡ 0 = div-eq-of-lt (unit-pos c) in
@@ -277,6 +297,42 @@ module _ (xs : List Made) (is : xs ≡ machineRun freshMachine (callsOf xs)) (by
   pub machine-one-stream : OneStream xs
   machine-one-stream =
       record { machine-is = is; streams = streams-at; from-key = from-key-at; from-image = from-image-at; goes-on = goes-on-at; others = others-at }
+
+  -- ---- positions and codes
+
+  takes-at : {before : List Made} {x : Made} → Stands before x xs → (i : ℕ) (input output : List ℕ) → did x ≡ did-crypt i input output → Takes i before x input
+  unfolding step shown moved
+  takes-at {before = before} {x = x} s i input output dx =
+      let m = machineAfter freshMachine before in
+      let k = place before (s .after) x (s .is) in
+      let here : lineOn (cardAfter freshCard before) i ≡ shown (lineAt m i) = ap (λ (c : Seen). lineOn c i) (k .at .card) ∙ seen-at m i in
+      let l : logOf i (before ++ (x ∷ [])) ≡ joined (logOf i before) input output =
+      log-append i (begun idle) before (x ∷ []) ∙ ap (noted i (logOf i before)) dx
+      ∙ ap (λ (b : Bool). pick b (joined (logOf i before) input output) (logOf i before)) (eq-eqb i i refl) in
+      record {
+        from = ap (λ (y : Line). y .n) here ∙ held-streamed (lineAt m i) (logOf i before) (k .at .held i) .position;
+        to =
+            ap (λ (y : Line). y .n) (line-after before x k i)
+            ∙ ap (λ (y : MLine). y .pos) (crypt-set m (k .at .eight) (x .call) _ (did x) (k .did-is) i input output dx)
+            ∙ ap (λ (y : Line). y .n + length input) (sym here);
+        since = ap (λ (g : Log). g .start) l;
+        taken = ap (λ (g : Log). g .ins) l;
+      }
+
+  within-at : (i : ℕ) → lineOn (cardAfter freshCard xs) i .n ≤ limit
+  unfolding shown
+  within-at i =
+      let r = reached xs freshMachine freshCard (λ i. begun idle) reached-fresh (runs xs freshMachine is) bytes in
+      let e : lineOn (cardAfter freshCard xs) i ≡ shown (lineAt (machineAfter freshMachine xs) i) = ap (λ (c : Seen). lineOn c i) (r .card) ∙ seen-at (machineAfter freshMachine xs) i in
+      subst (λ (y : Line). y .n ≤ limit) (sym e) (good-within (lineAt (machineAfter freshMachine xs) i) (good-get (r .good) i))
+
+  codes-at : {before : List Made} {x : Made} → Stands before x xs → x .code ≤ 13
+  codes-at {before = before} {x = x} s =
+      let k = place before (s .after) x (s .is) in
+      subst (λ (y : Made). y .code ≤ 13) (sym (k .run)) (code-small (machineAfter freshMachine before) (x .call))
+
+  pub machine-counted : Counted xs
+  machine-counted = record { takes = takes-at; within = within-at; codes = codes-at }
 
 -- What it comes to: the outputs of a line up to its park and those of the line that goes on there, joined, are their inputs joined,
 -- enciphered with the one stream.

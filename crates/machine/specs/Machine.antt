@@ -12,7 +12,7 @@ use Rattle.words.specs.Strings.{wordAt, bytesOf}
 use Rattle.words.specs.Tests.{both, pick}
 use Rattle.keystream.specs.Stream.{Gen, stateAt, byteAt, xorFrom}
 use Rattle.ciphers.specs.States.{stateWords}
-use Rattle.ciphers.specs.Table.{Cipher, cipherAt, isCipher}
+use Rattle.ciphers.specs.Table.{Cipher, cipherAt, isCipher, allZero}
 use Rattle.command.specs.declared.Command.{Command}
 use Rattle.command.specs.declared.Command.the-variants.{Tray, Own, Crypt, Park, Resume, Close}
 use Rattle.command.specs.declared.Decoded.{Decoded}
@@ -106,10 +106,6 @@ limit = 2 ^ 36
 -- an image, or an open line: its cipher, n, and its state with the zeros after it
 unfoldable pub openOk : Line → Bool
 openOk l = both (isCipher (l .cipher)) (both (leb (l .n) limit) (cipherAt (l .cipher) .admits (l .words)))
-
-abbrev pub allZero : List ℕ → Bool
-allZero [] = true
-allZero (x ∷ l) = both (eqb x 0) (allZero l)
 
 -- an idle line as on a fresh card
 unfoldable pub idleOk : Line → Bool

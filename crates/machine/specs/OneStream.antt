@@ -8,8 +8,8 @@ use Rattle.words.specs.Lists.{All, Byte}
 use Rattle.keystream.specs.Stream.{xorFrom}
 use Rattle.ciphers.specs.Table.{cipherAt}
 use Rattle.line.specs.declared.Line.{Line}
-use Rattle.machine.specs.Machine.{MLine, Call, genOf, genAt, byteOf, stateOf, imageLine, freshMachine, freshCard}
-use Rattle.machine.specs.Logs.{Made, machineRun, callsOf, cardAfter, lineOn, did, did-open, did-park, did-resume, Log, logOf, standing}
+use Rattle.machine.specs.Machine.{MLine, Call, genOf, genAt, byteOf, stateOf, imageLine, limit, freshMachine, freshCard}
+use Rattle.machine.specs.Logs.{Made, machineRun, callsOf, cardAfter, lineOn, did, did-open, did-crypt, did-park, did-resume, Log, logOf, standing}
 
 -- The only hypothesis: the buffers that a key, an IV or an image is read from hold bytes.
 pub record CallBytes (a : Call) : Type 0 where
@@ -69,3 +69,21 @@ pub record OneStream (xs : List Made) : Type 0 where
       GoesOn (standing (logOf i before)) (logOf j (sofar ++ (x ∷ [])) .start)
   -- a call on another line, or a refused one, changes neither a line's stream nor its position nor its state
   pub others : {before : List Made} {x : Made} → Stands before x xs → (i : ℕ) → (On i x → ⊥) → Kept i before x
+
+-- ---- what follows for positions and codes
+
+-- A crypt on line i takes the positions from where its line stands on, one for each byte of its input: they begin after those that the crypts since its line's open or resume took, and the
+-- next crypt begins after them.
+pub record Takes (i : ℕ) (before : List Made) (x : Made) (input : List ℕ) : Type 0 where
+  pub from : lineOn (cardAfter freshCard before) i .n ≡ logOf i before .start .pos + length (logOf i before .ins)
+  pub to : lineOn (x .card) i .n ≡ lineOn (cardAfter freshCard before) i .n + length input
+  pub since : logOf i (before ++ (x ∷ [])) .start ≡ logOf i before .start
+  pub taken : logOf i (before ++ (x ∷ [])) .ins ≡ logOf i before .ins ++ input
+
+-- The list xs, from a fresh card: no position comes round, and no card is damaged.
+pub record Counted (xs : List Made) : Type 0 where
+  pub takes : {before : List Made} {x : Made} → Stands before x xs → (i : ℕ) (input output : List ℕ) → did x ≡ did-crypt i input output → Takes i before x input
+  -- after the list no line stands past 2^36
+  pub within : (i : ℕ) → lineOn (cardAfter freshCard xs) i .n ≤ limit
+  -- every code is 0 or a number from 1 to 13
+  pub codes : {before : List Made} {x : Made} → Stands before x xs → x .code ≤ 13

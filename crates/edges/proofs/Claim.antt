@@ -1,0 +1,36 @@
+-- Every row of the table computes to what it states. A line that is parked at a unit's end or within a unit goes on from its byte, on whichever line its image is resumed: the image says exactly
+-- the line, and where it is put does not enter.
+-- Assumes nothing.
+use mathlib.Core.Path.{_≡_, refl}
+use mathlib.Core.List.{List, map}
+use Prim.Native.Nat.{ℕ, zero, _≤_}
+use native.Mathlib.Omega.{arith}
+use lib.Dec.{lit≤}
+use Rattle.ciphers.specs.Fit.{Fit}
+use Rattle.ciphers.specs.Table.{cipherAt, zuc, rabbit, snow128, snow256, kcipher2}
+use Rattle.command.specs.Decode.{lengthOf}
+use Rattle.machine.specs.Machine.{MLine, shown, based, imageOf, imageLine, byteOf, limit, decided, refuseIf, spareUsed}
+use Rattle.machine.specs.OneStream.{GoesOn}
+use Rattle.machine.proofs.Lines.{good-open, good-behind, Good}
+use Rattle.machine.proofs.Images.{image-goes-on}
+use Rattle.machine.proofs.OneStream.{sized}
+use Rattle.edges.specs.Table.{Row, table, crypting, parking, opening}
+
+pub edges : map (λ (r : Row). r .computed) table ≡ map (λ (r : Row). r .stated) table
+unfolding table crypting parking opening decided refuseIf lengthOf spareUsed cipherAt zuc rabbit snow128 snow256 kcipher2
+edges = refl
+
+-- ZUC, whose unit is four bytes, at position n of the stream of S(0) = w
+abbrev at : List ℕ → ℕ → MLine
+at w n = record { mode = 1; cipher = 1; base = w; from = 0; pos = n }
+
+resumed : (w : List ℕ) (n : ℕ) → n ≤ limit → Fit (cipherAt 1) w → GoesOn (at w n) (based (imageLine (imageOf (shown (at w n)))))
+resumed w n h f =
+    let g : Good (at w n) = good-open {l = at w n} refl refl h (omega arith) f in
+    image-goes-on (at w n) (good-behind (at w n) g) (sized (at w n) g refl) (imageOf (shown (at w n))) refl
+
+pub at-a-unit's-end : (w : List ℕ) → Fit (cipherAt 1) w → byteOf (based (imageLine (imageOf (shown (at w 4))))) 4 ≡ byteOf (at w 4) 4
+at-a-unit's-end w f = resumed w 4 (lit≤ tt) f .bytes 4 (lit≤ tt)
+
+pub within-a-unit : (w : List ℕ) → Fit (cipherAt 1) w → byteOf (based (imageLine (imageOf (shown (at w 5))))) 5 ≡ byteOf (at w 5) 5
+within-a-unit w f = resumed w 5 (lit≤ tt) f .bytes 5 (lit≤ tt)

@@ -1,0 +1,72 @@
+-- The edges of document 01 as rows: the code that the machine gives, and the code that document 01 says.
+-- Assumes nothing.
+use mathlib.Core.List.{List, [], _∷_}
+use Prim.Native.Nat.{ℕ, _-_, _^_}
+use lib.ListN.{replicate}
+use Rattle.command.specs.declared.Cipher.the-variants.{Zuc}
+use Rattle.command.specs.declared.Command.{Command}
+use Rattle.command.specs.declared.Command.the-variants.{Tray, Crypt, Park}
+use Rattle.machine.specs.Machine.{MLine, Public, Call, Effect, refuse, put, crypt, park, decided, noView}
+
+pub record Row : Type 0 where
+  pub computed : ℕ
+  pub stated : ℕ
+
+infix 60 _is_
+abbrev pub _is_ : ℕ → ℕ → Row
+a is b = record { computed = a; stated = b }
+
+-- a refusal's number, and 0 of an accepted command
+abbrev codeOf : Effect → ℕ
+codeOf (refuse k) = k
+codeOf (put i l size) = 0
+codeOf (crypt i n size) = 0
+codeOf (park i size) = 0
+
+abbrev zerosOf : ℕ → List ℕ
+zerosOf n = replicate n 0
+
+-- line 0 open at position n, and idle
+abbrev openAt : ℕ → Public
+openAt n = record { lines = record { mode = 1; cipher = 1; pos = n } ∷ [] }
+
+abbrev allIdle : Public
+allIdle = record { lines = noView ∷ [] }
+
+-- count bytes at position n, with so many bytes of data and of out
+unfoldable pub crypting : ℕ → ℕ → ℕ → ℕ → ℕ
+crypting n count text out = codeOf (decided (Crypt 0 count) (openAt n) (record { command = []; tray = []; text = zerosOf text; out = zerosOf out }))
+
+-- a park with so many bytes of out
+unfoldable pub parking : ℕ → ℕ
+parking out = codeOf (decided (Park 0) (openAt 5) (record { command = []; tray = []; text = []; out = zerosOf out }))
+
+-- an open with key number k of a tray of so many bytes
+unfoldable pub opening : ℕ → ℕ → ℕ
+opening tray k = codeOf (decided (Tray 0 Zuc k) allIdle (record { command = zerosOf 20; tray = zerosOf tray; text = []; out = [] }))
+
+unfoldable pub table : List Row
+table =
+    -- the last position, and one past it
+    (crypting (2 ^ 36 - 1) 1 1 1 is 0)
+    ∷ (crypting (2 ^ 36 - 1) 2 2 2 is 13)
+    -- count 0 is accepted everywhere
+    ∷ (crypting 0 0 0 0 is 0)
+    ∷ (crypting (2 ^ 36) 0 0 0 is 0)
+    ∷ (crypting (2 ^ 36) 1 1 1 is 13)
+    -- 13 before 11 before 12
+    ∷ (crypting (2 ^ 36) 1 0 0 is 13)
+    ∷ (crypting 0 5 4 4 is 11)
+    ∷ (crypting 0 5 5 4 is 12)
+    ∷ (crypting 0 5 5 5 is 0)
+    -- room for an image
+    ∷ (parking 88 is 12)
+    ∷ (parking 89 is 0)
+    -- trays
+    ∷ (opening 8192 255 is 0)
+    ∷ (opening 8224 0 is 9)
+    ∷ (opening 0 0 is 10)
+    ∷ (opening 32 0 is 0)
+    ∷ (opening 32 1 is 10)
+    ∷ (opening 33 0 is 9)
+    ∷ []
