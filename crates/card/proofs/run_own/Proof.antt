@@ -1,0 +1,47 @@
+-- `card::run_own` meets its contract: the one test is a row of the table, and the key is the part of the command.
+-- Assumes nothing.
+use borrow.Author.Needs.{needs}
+use Rattle.card.proofs.run_own.Statement.{statement}
+use Rattle.card.proofs.run_own.Tie as tie
+use mathlib.Core.Path.{ap, _∙_}
+use mathlib.Core.Bool.{true, false}
+use native.Mathlib.Omega.{arith}
+use lib.ListN.{length, take, drop, length-drop}
+use lib.Seq.{length-take-le}
+use borrow.Author.Tests.{eq-eqb, ne-eqb}
+use Rattle.command.specs.Decode.{numberOf, lengthOf}
+use Rattle.machine.specs.Machine.{decided, refuseIf}
+use Rattle.card.proofs.Laws.{busy-is, given-true, given-false, given-key, refusal}
+
+returns : tie.Need-returns
+unfolding decided refuseIf lengthOf
+returns c =
+    let a = c .before .before .before .before .before .before .args in
+    let d = a .card in
+    λ t o. given-true d t o _ _ _ (busy-is d (a .line) false (ne-eqb _ _ (c .before .if1 .taken)))
+    (refusal d t o 5 (c .refused .result) (c .refused .ensures))
+
+open-line-requires : tie.Need-open-line-requires
+open-line-requires c κs =
+    let a = c .before .before .before .before .before .before .before .args in
+    let m = a .command .now in (
+      search needs,
+      (
+        ap length (c .before .key-part .ensures) ∙ length-take-le 32 (drop 3 m) (omega (arith, length-drop 3 m, c .before .before .before .before .before .before .before .pre .1)),
+        length-take-le 16 (drop 35 m) (omega (arith, length-drop 35 m, c .before .before .before .before .before .before .before .pre .1)),
+      ),
+    )
+
+returns-2 : tie.Need-returns-2
+unfolding decided refuseIf lengthOf
+returns-2 c =
+    let a = c .before .before .before .before .before .before .before .before .args in
+    let d = a .card in
+    λ t o. given-false d t o _ _ _ (busy-is d (a .line) true (eq-eqb _ _ (c .before .before .before .if1 .left)))
+    (given-key d t o (a .line) 51 (numberOf (a .cipher)) (take 16 (drop 35 (a .command .now))) (c .open-line .result) (c .before .before .key-part .ensures) (c .open-line .ensures t o))
+
+pub run-own-spec : {M : Type 1} → statement M
+run-own-spec =
+    tie.close
+    (tie.spec (λ c. search needs) (λ c. search needs) (λ c κs. search needs) returns (λ c κs. search needs) (λ c. search needs) (λ c. search needs)
+    (λ c. search needs) open-line-requires returns-2)
