@@ -11,6 +11,7 @@ ghost use Rattle.command.specs.Decode.{numberOf};
 ghost use Rattle.command.specs.declared.Command.the-variants.{Tray, Own, Crypt, Park, Resume, Close};
 ghost use Rattle.machine.specs.Machine.{Call, idleLine, shown, based, moved, enciphered, opened, openOk, allOk, limit, lineCount, spareUsed, put, refuseIf};
 ghost use Rattle.card.specs.Answer.{callOf, Given, Does, Answered, refusalOf};
+use checks::LIMIT;
 use checks::all_ok;
 use checks::all_zero;
 use checks::open_ok;
@@ -23,9 +24,6 @@ use dispatch::key_of;
 use dispatch::number_of;
 use dispatch::unit_of;
 use line::Line;
-
-// Document 01's 2^36.
-const LIMIT: u64 = 68_719_476_736;
 
 pub struct Card {
     pub lines: [Line; 8],
@@ -162,7 +160,7 @@ fn run_tray<'a>(
         return refused(card, 10);
     }
     let key = key_part(tray, command, false, at);
-    open_line(card, i, cipher, key, &command[4..20], 20)
+    open_line(card, i, cipher, key, &command[4..20], command::TRAY)
 }
 
 // An open with the command's own key.
@@ -179,7 +177,7 @@ fn run_own<'a>(card: Card, line: u8, cipher: Cipher, tray: &'a [u8], command: &'
         return refused(card, 5);
     }
     let key = key_part(tray, command, true, 3);
-    open_line(card, i, cipher, key, &command[35..51], 51)
+    open_line(card, i, cipher, key, &command[35..51], command::OWN)
 }
 
 // The line as many bytes on as the text has, which goes to the start of out, XORed with the line's keystream.
@@ -237,7 +235,7 @@ fn run_crypt(card: Card, line: u8, count: usize, data: &[u8], out: &mut [u8]) ->
     Answer {
         card: next,
         code: 0,
-        used_command: 4,
+        used_command: command::CRYPT,
         used_data: count,
         written: count,
     }
@@ -265,9 +263,9 @@ fn run_park(card: Card, line: u8, out: &mut [u8]) -> Answer
     Answer {
         card: next,
         code: 0,
-        used_command: 2,
+        used_command: command::PARK,
         used_data: 0,
-        written: 89,
+        written: image::LENGTH,
     }
 }
 
@@ -290,7 +288,7 @@ fn run_resume(card: Card, line: u8, command: &[u8]) -> Answer
     if !ok {
         return refused(card, 8);
     }
-    placed(card, i, back, 91)
+    placed(card, i, back, command::RESUME)
 }
 
 // A close: the line is idle.
@@ -306,7 +304,7 @@ fn run_close(card: Card, line: u8) -> Answer
         return refused(card, 6);
     }
     let idle = idle_line();
-    placed(card, i, idle, 2)
+    placed(card, i, idle, command::CLOSE)
 }
 
 // The number of a command that is not read.
