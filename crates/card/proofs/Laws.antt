@@ -23,6 +23,8 @@ use Rattle.command.specs.declared.Cipher.{Cipher}
 use Rattle.command.specs.declared.Cipher.the-variants.{Zuc, Rabbit, Snow128, Snow256, Kcipher2}
 use Rattle.command.specs.Decode.{numberOf}
 use Rattle.line.specs.declared.Line.{Line}
+use Rattle.checks.proofs.Between.{both-false}
+use Rattle.checks.proofs.Walks.{by-default}
 use Rattle.machine.specs.Machine.{MLine, View, noView, Effect, refuse, put, crypt, park, refuseIf, idle, idleLine, based, shown, moved, stateOf, unitAt, byteOf, enciphered, viewOf, viewAt, isIdle, isOpen, limit, lineOk, openOk, idleOk, allOk, spareUsed, trayOk, imageOf, imageLength, opened}
 use Rattle.machine.proofs.Lines.{shown-based, shown-idle}
 use Rattle.machine.proofs.Simulation.{shown-all, map-set}
@@ -45,11 +47,6 @@ based-at [] i h = absurd (not-suc-le-zero h)
 based-at (l ∷ ls) zero h = refl
 based-at (l ∷ ls) (suc i) h = based-at ls i (le-of-suc-le-suc h)
 
-by-default : (ls : List Line) (i : ℕ) → i < length ls → getD ls i idleLine ≡ getD ls i noLine
-by-default [] i h = absurd (not-suc-le-zero h)
-by-default (l ∷ ls) zero h = refl
-by-default (l ∷ ls) (suc i) h = by-default ls i (le-of-suc-le-suc h)
-
 line-ok : (n : ℕ) (ls : List Line) (i : ℕ) → i < n → allOk n ls ≡ true → lineOk (getD ls i idleLine) ≡ true
 line-ok zero ls i h e = absurd (not-suc-le-zero h)
 line-ok (suc n) ls i h e = go (decLt i n) (λ q. line-ok n ls i q (both-left (allOk n ls) (lineOk (getD ls n idleLine)) e))
@@ -65,7 +62,7 @@ pub open-ok-at : (c : Card) (i : ℕ) → length (c .lines) ≡ 8 → i < 8 → 
 unfolding lineOk
 open-ok-at c i e h k m =
     let l = lineOn c i in
-    let a : lineOk l ≡ true = ap lineOk (sym (by-default (c .lines) i (omega (arith, e)))) ∙ line-ok 8 (c .lines) i h k in
+    let a : lineOk l ≡ true = ap lineOk (sym (by-default (c .lines) i noLine (omega (arith, e)))) ∙ line-ok 8 (c .lines) i h k in
     sym (ap (λ (x : ℕ). pick (eqb x 0) (idleOk l) (both (eqb x 1) (openOk l))) m) ∙ a
 
 pub view-at : (c : Card) (i : ℕ) → viewAt (publicOf c) i ≡ record { mode = lineOn c i .mode; cipher = lineOn c i .cipher; pos = lineOn c i .n }
@@ -108,10 +105,6 @@ iv-fits Snow128 = lit≤ tt
 iv-fits Snow256 = lit≤ tt
 iv-fits Kcipher2 = lit≤ tt
 
-both-no : (a b : Bool) → b ≡ false → both a b ≡ false
-both-no true b h = h
-both-no false b h = refl
-
 module _ (c k v : ℕ) (key iv : List ℕ) (ek : k ≡ cipherAt c .key) (ev : v ≡ cipherAt c .iv) where
   spare-is : (b : Bool) → both (allZero (drop k key)) (allZero (drop v iv)) ≡ b → spareUsed c key iv ≡ not b
   unfolding spareUsed
@@ -121,7 +114,7 @@ module _ (c k v : ℕ) (key iv : List ℕ) (ek : k ≡ cipherAt c .key) (ev : v 
   spare-key h = spare-is false (ap (λ (x : Bool). both x (allZero (drop v iv))) h)
 
   pub spare-iv : allZero (drop v iv) ≡ false → spareUsed c key iv ≡ true
-  spare-iv h = spare-is false (both-no (allZero (drop k key)) (allZero (drop v iv)) h)
+  spare-iv h = spare-is false (both-false (allZero (drop k key)) (allZero (drop v iv)) h)
 
   pub spare-none : allZero (drop k key) ≡ true → allZero (drop v iv) ≡ true → spareUsed c key iv ≡ false
   spare-none h g = spare-is true (both-true h g)
@@ -130,7 +123,7 @@ pub tray-uneven : (n : ℕ) → (n % 32 ≡ 0 → ⊥) → not (trayOk n) ≡ tr
 tray-uneven n h = ap (λ (b : Bool). not (both b (leb n 8192))) (ne-eqb (n % 32) 0 h)
 
 pub tray-long : (n : ℕ) → 8192 < n → not (trayOk n) ≡ true
-tray-long n h = ap not (both-no (eqb (n % 32) 0) (leb n 8192) (lt-leb n 8192 h))
+tray-long n h = ap not (both-false (eqb (n % 32) 0) (leb n 8192) (lt-leb n 8192 h))
 
 pub tray-good : (n : ℕ) → n % 32 ≡ 0 → n ≤ 8192 → not (trayOk n) ≡ false
 tray-good n e h = ap not (both-true (eq-eqb (n % 32) 0 e) (le-leb n 8192 h))

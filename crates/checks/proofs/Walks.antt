@@ -50,7 +50,7 @@ line-fails (suc n) ls i h e = go (decLt i n) (λ q. line-fails n ls i q e)
         let z : n ≡ i = omega arith in
         both-false (allOk n ls) (lineOk (getD ls n idleLine)) (ap (λ (k : ℕ). lineOk (getD ls k idleLine)) z ∙ e)
 
-by-default : (ls : List Line) (i : ℕ) (d : Line) → i < length ls → getD ls i idleLine ≡ getD ls i d
+pub by-default : (ls : List Line) (i : ℕ) (d : Line) → i < length ls → getD ls i idleLine ≡ getD ls i d
 by-default [] i d h = absurd (not-suc-le-zero h)
 by-default (l ∷ ls) zero d h = refl
 by-default (l ∷ ls) (suc i) d h = by-default ls i d (le-of-suc-le-suc h)

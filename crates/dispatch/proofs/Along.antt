@@ -3,8 +3,8 @@
 -- Assumes nothing.
 use mathlib.Core.Path.{_≡_, refl, ap, sym, subst, _∙_}
 use mathlib.Core.List.{List, _++_}
-use Prim.Native.Nat.{ℕ, zero, suc, _+_, _/_, _<_, _≤_}
-use Rattle.words.specs.Lists.{iter}
+use Prim.Native.Nat.{ℕ, _+_, _/_, _<_, _≤_}
+use Rattle.words.proofs.Ranges.{iter-keeps}
 use lib.ListN.{length, drop}
 use Rattle.keystream.specs.Stream.{Gen, stateAt, byteAt, xorFrom}
 use Rattle.keystream.proofs.Laws.{xorFrom-agree}
@@ -56,12 +56,6 @@ module _ {S T : Type 0} (g : Gen S) (h : Gen T) (f : S → T) (P : S → Type 0)
             (xorFrom-agree (byteAt g s 0) (byteAt h w 0) skip skip text
             (λ i _. byteAt-along g h f P keeps same-unit same-next same-strm s 0 (skip + i) p ∙ ap (λ (x : T). byteAt h x 0 (skip + i)) e)),
       )
-
--- what Next keeps holds of every later state
-iter-keeps : {S : Type 0} (P : S → Type 0) (next : S → S) → ((s : S) → P s → P (next s)) → (k : ℕ) (s : S) → P s → P (iter k next s)
-unfolding iter
-iter-keeps P next keeps zero s p = p
-iter-keeps P next keeps (suc k) s p = keeps (iter k next s) (iter-keeps P next keeps k s p)
 
 -- ---- each cipher
 
