@@ -5,5 +5,6 @@ pub mod Images
 pub mod Explained
 pub mod Streams
 pub mod OneStream
+pub mod Trunk
 pub mod Codes
 pub mod Deciphers

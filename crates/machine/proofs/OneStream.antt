@@ -12,11 +12,10 @@ use lib.Seq.{length-take-le, getD-set-same, getD-set-other}
 use borrow.Author.Tests.{eq-eqb, ne-eqb}
 use Rattle.words.specs.Lists.{iter}
 use Rattle.words.specs.Tests.{pick}
-use Rattle.keystream.specs.Stream.{stateAt, xorFrom}
-use Rattle.keystream.proofs.Laws.{xorFrom-append, xorFrom-agree}
+use Rattle.keystream.specs.Stream.{stateAt}
 use Rattle.ciphers.specs.Table.{cipherAt}
 use Rattle.line.specs.declared.Line.{Line}
-use Rattle.machine.specs.Machine.{MLine, Machine, Seen, lineAt, idle, idleLine, genOf, unitAt, stateOf, byteOf, moved, shown, based, opened, limit, imageOf, imageLine, Call, Effect, refuse, put, crypt, park, public, decide, perform, step, seen, shows, freshMachine, freshCard}
+use Rattle.machine.specs.Machine.{MLine, Machine, Seen, lineAt, idle, idleLine, genOf, unitAt, stateOf, moved, shown, based, opened, limit, imageOf, imageLine, Call, Effect, refuse, put, crypt, park, public, decide, perform, step, seen, shows, freshMachine, freshCard}
 use Rattle.machine.specs.Logs.{Made, madeOf, machineRun, callsOf, cardAfter, lineOn, Did, did-nothing, did-open, did-crypt, did-park, did-resume, did-close, did, Log, begun, joined, noted, logAfter, logOf, standing}
 use Rattle.machine.specs.OneStream.{AllBytes, Streamed, GoesOn, On, Kept, Stands, OneStream, Takes, Counted}
 use Rattle.machine.proofs.Lines.{unit-pos, Good, good-idle, good-open, good-behind, shown-idle, shown-based, state-fit}
@@ -333,17 +332,3 @@ module _ (xs : List Made) (is : xs ≡ machineRun freshMachine (callsOf xs)) (by
 
   pub machine-counted : Counted xs
   machine-counted = record { takes = takes-at; within = within-at; codes = codes-at }
-
--- What it comes to: the outputs of a line up to its park and those of the line that goes on there, joined, are their inputs joined,
--- enciphered with the one stream.
-pub joined-across : (g g' : Log) (l l' : Line) → Streamed l g → Streamed l' g' → GoesOn (standing g) (g' .start) →
-    g .outs ++ g' .outs ≡ xorFrom (byteOf (g .start)) (g .start .pos) (g .ins ++ g' .ins)
-unfolding moved byteOf
-joined-across g g' l l' s s' on =
-    let f = byteOf (g .start) in
-    let n = g .start .pos + length (g .ins) in
-    let p : g' .start .pos ≡ n = on .position in
-    let e : xorFrom (byteOf (g' .start)) (g' .start .pos) (g' .ins) ≡ xorFrom f n (g' .ins) =
-    xorFrom-agree (byteOf (g' .start)) f (g' .start .pos) n (g' .ins)
-    (λ i _. on .bytes (g' .start .pos + i) (omega (arith, p)) ∙ ap (λ (x : ℕ). f (x + i)) p) in
-    ap₂ _++_ (s .outputs) (s' .outputs ∙ e) ∙ sym (xorFrom-append f (g .start .pos) (g .ins) (g' .ins))
