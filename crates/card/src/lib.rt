@@ -11,6 +11,7 @@ ghost use Rattle.command.specs.Decode.{numberOf};
 ghost use Rattle.command.specs.declared.Command.the-variants.{Tray, Own, Crypt, Park, Resume, Close};
 ghost use Rattle.machine.specs.Machine.{Call, idleLine, shown, based, moved, enciphered, opened, openOk, allOk, limit, lineCount, spareUsed, put, refuseIf};
 ghost use Rattle.card.specs.Answer.{callOf, Given, Does, Answered, refusalOf};
+ghost use Rattle.card.specs.Ran.{fresh as Ran·fresh};
 use checks::LIMIT;
 use checks::all_ok;
 use checks::all_zero;
@@ -77,6 +78,14 @@ fn idle_line() -> Line
         n: 0,
         words: [0u32; 20],
     }
+}
+
+// A fresh card: all lines idle.
+pub fn fresh() -> Card
+    ensures { λ r. ⌜ r ≡ Ran·fresh ⌝ }
+{
+    let l = idle_line();
+    Card { lines: [l; 8] }
 }
 
 // The 32 bytes of a key: a part of the command, or a part of the tray.

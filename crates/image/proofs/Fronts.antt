@@ -1,4 +1,4 @@
--- Strings that are written to a buffer one after the other: a part that is lent from the end of what is written and comes back joins it, and what is behind stays.
+-- An image goes to a buffer part by part: the cipher's byte, the two halves of n, the words, each behind the one before it.
 -- Assumes nothing.
 use mathlib.Core.Path.{_≡_, refl, ap, sym, _∙_}
 use mathlib.Core.List.{List, [], _∷_, _++_, append-assoc, append-nil}
@@ -7,57 +7,12 @@ use native.Mathlib.Nat.{le-of-suc-le-suc, not-suc-le-zero}
 use native.Mathlib.Numerals.{add-one}
 use native.Mathlib.Omega.{arith}
 use borrow.Rule.Slice.PartMut.{putMid}
-use lib.ListN.{length, getD, take, drop, set, length-append, length-drop}
-use lib.Seq.{take-at, drop-at, drop-drop, take-all, sets-eq}
+use lib.ListN.{length, getD, take, drop, set, length-append}
+use lib.Seq.{take-all, sets-eq}
 use Rattle.words.specs.Strings.{bytesOf}
-use Rattle.keystream.proofs.Parts.{put-tail, tail-part, tail-length}
+use Rattle.buffer.proofs.Fronts.{Front, front-byte, front-more}
 use Rattle.line.specs.declared.Line.{Line}
 use Rattle.machine.specs.Machine.{spelt, imageOf}
-
--- p, of a bytes, stands before what was there
-pub record Front (p before out : List ℕ) (a : ℕ) : Type 0 where
-  pub size : length p ≡ a
-  pub fits : a ≤ length before
-  pub is : out ≡ p ++ drop a before
-
-pub front-length : {p before out : List ℕ} {a : ℕ} → Front p before out a → length out ≡ length before
-front-length {p} {before} {out} {a} f =
-    let s = f .size in
-    let h = f .fits in
-    ap length (f .is) ∙ length-append p (drop a before) ∙ (let e : length p + length (drop a before) ≡ length before = omega (arith, length-drop a before) in e)
-
-pub front-none : (before : List ℕ) → Front [] before before 0
-front-none before = record { size = refl; fits = omega arith; is = refl }
-
-front-byte : (c : ℕ) (before : List ℕ) → 1 ≤ length before → Front (c ∷ []) before (set before 0 c) 1
-front-byte c [] h = absurd (not-suc-le-zero h)
-front-byte c (x ∷ before) h = record { size = refl; fits = h; is = refl }
-
--- the part that is lent has room for what fits
-pub front-room : {p before out : List ℕ} {a : ℕ} → Front p before out a → (k : ℕ) → a + k ≤ length before
-    → k ≤ length (take (length out - a) (drop a out))
-front-room {out = out} {a} f k h = let n = front-length f in omega (arith, tail-length a out)
-
-pub front-within : {p before out : List ℕ} {a : ℕ} → Front p before out a → a ≤ length out
-front-within f = let n = front-length f in let h = f .fits in omega arith
-
--- b, of k bytes, in the part that is lent
-front-more : {p before out : List ℕ} {a : ℕ} (b ys : List ℕ) (k : ℕ) → length b ≡ k → a + k ≤ length before → Front p before out a
-    → ys ≡ b ++ drop k (take (length out - a) (drop a out)) → Front (p ++ b) before (putMid a (length out - a) out ys) (a + k)
-front-more {p} {before} {out} {a} b ys k l h f e =
-    let s = f .size in
-    let n = front-length f in
-    let rest : drop a out ≡ drop a before = ap (drop a) (f .is) ∙ drop-at p (drop a before) a s in
-    record {
-      size = length-append p b ∙ (let z : length p + length b ≡ a + k = omega arith in z);
-      fits = h;
-      is =
-          put-tail a out ys (omega arith)
-          ∙ ap (λ (x : List ℕ). x ++ ys) (ap (take a) (f .is) ∙ take-at p (drop a before) a s)
-          ∙ ap (λ (x : List ℕ). p ++ x)
-          (e ∙ ap (λ (x : List ℕ). b ++ drop k x) (tail-part a out ∙ rest) ∙ ap (λ (x : List ℕ). b ++ x) (drop-drop k a before))
-          ∙ sym (append-assoc p b (drop (a + k) before));
-    }
 
 -- ---- words
 

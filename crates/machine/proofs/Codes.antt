@@ -16,9 +16,9 @@ use Rattle.command.specs.declared.Decoded.the-variants.{Run, Refused}
 use Rattle.command.specs.Decode.{readOf, lengthOf, withCipher, refusedIf, openOf, cryptOf, commandOf, decodeOf}
 use Rattle.machine.specs.Machine.{MLine, Machine, Public, Call, Effect, refuse, put, crypt, park, refuseIf, effectOf, decided, ofDecoded, decide, public, perform, step}
 
-data Numbered : Decoded → Type 0 where
+pub data Numbered : Decoded → Type 0 where
   run-numbered : {c : Command} → Numbered (Run c)
-  refusal-numbered : {k : ℕ} → k ≤ 13 → Numbered (Refused k)
+  refusal-numbered : {k : ℕ} → 1 ≤ k → k ≤ 13 → Numbered (Refused k)
 
 data Small : Effect → Type 0 where
   small-refuse : {k : ℕ} → k ≤ 13 → Small (refuse k)
@@ -26,9 +26,9 @@ data Small : Effect → Type 0 where
   small-crypt : {i n size : ℕ} → Small (crypt i n size)
   small-park : {i size : ℕ} → Small (park i size)
 
-read-row : (b : Bool) (k : ℕ) (d : Decoded) → k ≤ 13 → Numbered d → Numbered (refusedIf b k d)
-read-row true k d h n = refusal-numbered h
-read-row false k d h n = n
+read-row : (b : Bool) (k : ℕ) (d : Decoded) → 1 ≤ k → k ≤ 13 → Numbered d → Numbered (refusedIf b k d)
+read-row true k d g h n = refusal-numbered g h
+read-row false k d g h n = n
 
 either : (b : Bool) (d d' : Decoded) → Numbered d → Numbered d' → Numbered (pick b d d')
 either true d d' n n' = n
@@ -36,20 +36,21 @@ either false d d' n n' = n'
 
 with-cipher : (r : CipherRead) (f : Cipher → Decoded) → ((c : Cipher) → Numbered (f c)) → Numbered (withCipher r f)
 with-cipher (Is c) f h = h c
-with-cipher Unknown f h = refusal-numbered (lit≤ tt)
+with-cipher Unknown f h = refusal-numbered (lit≤ tt) (lit≤ tt)
 
 open-numbered : (k : ℕ) (s : List ℕ) → Numbered (openOf k s)
 unfolding openOf
 open-numbered k s = with-cipher (readOf (getD s 2 0)) _ (λ c. either (eqb k 1) _ _ run-numbered run-numbered)
 
-numbered : (s : List ℕ) → Numbered (decodeOf s)
+-- a command that is not read has a number from 1 to 13
+pub numbered : (s : List ℕ) → Numbered (decodeOf s)
 unfolding decodeOf commandOf cryptOf
 numbered s =
     let k = getD s 0 0 in
-    read-row (eqb (length s) 0) 1 _ (lit≤ tt)
-    (read-row (eqb (lengthOf k) 0) 2 _ (lit≤ tt)
-    (read-row (ltb (length s) (lengthOf k)) 1 _ (lit≤ tt)
-    (read-row (ltb 7 (getD s 1 0)) 3 _ (lit≤ tt)
+    read-row (eqb (length s) 0) 1 _ (lit≤ tt) (lit≤ tt)
+    (read-row (eqb (lengthOf k) 0) 2 _ (lit≤ tt) (lit≤ tt)
+    (read-row (ltb (length s) (lengthOf k)) 1 _ (lit≤ tt) (lit≤ tt)
+    (read-row (ltb 7 (getD s 1 0)) 3 _ (lit≤ tt) (lit≤ tt)
     (either (eqb k 1) _ _ (open-numbered k s)
     (either (eqb k 2) _ _ (open-numbered k s) (either (eqb k 3) _ _ run-numbered (either (eqb k 4) _ _ run-numbered (either (eqb k 5) _ _ run-numbered run-numbered))))))))
 
@@ -79,7 +80,7 @@ decided-small c v a =
 
 decoded-small : (d : Decoded) → Numbered d → (v : Public) (a : Call) → Small (ofDecoded d v a)
 decoded-small (Run c) n v a = decided-small c v a
-decoded-small (Refused k) (refusal-numbered h) v a = small-refuse h
+decoded-small (Refused k) (refusal-numbered g h) v a = small-refuse h
 
 performed : (m : Machine) (text : List ℕ) (e : Effect) → Small e → perform m text e .outcome .code ≤ 13
 performed m text (refuse k) (small-refuse h) = h

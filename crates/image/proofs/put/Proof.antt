@@ -1,6 +1,7 @@
 -- `image::put` meets its contract: each part goes behind the one before it.
 -- Assumes nothing.
-use Rattle.image.proofs.Fronts.{front-length, front-room, front-within, front-1, front-5, front-9, front-89}
+use Rattle.buffer.proofs.Fronts.{front-length, front-room, front-within}
+use Rattle.image.proofs.Fronts.{front-1, front-5, front-9, front-89}
 use borrow.Author.Needs.{needs}
 use Rattle.image.proofs.put.Statement.{statement}
 use Rattle.image.proofs.put.Tie as tie

@@ -5,7 +5,8 @@ use mathlib.Core.Path.{_≡_}
 use native.Mathlib.Omega.{arith}
 use lib.ListN.{take}
 use Rattle.machine.specs.Machine.{spelt}
-use Rattle.image.proofs.Fronts.{Front, front-none, front-length, front-room, front-within, word-more, words-all}
+use Rattle.buffer.proofs.Fronts.{Front, front-none, front-length, front-room, front-within}
+use Rattle.image.proofs.Fronts.{word-more, words-all}
 use borrow.Author.Needs.{needs}
 use Rattle.image.proofs.put_words.Statement.{statement}
 use Rattle.image.proofs.put_words.Tie as tie

@@ -1,0 +1,19 @@
+// Bytes put to the start of a lent buffer; what is behind them stays.
+// A caller holds that the buffer has room for them.
+ghost use mathlib.Core.Path.{_≡_};
+ghost use mathlib.Core.List.{_++_};
+ghost use Prim.Native.Nat.{_≤_};
+ghost use lib.ListN.{length, drop};
+
+// The bytes of s go to the start of out.
+pub fn put(s: &[u8], out: &mut [u8])
+    requires { ⌜ length (now s) ≤ length (now out) ⌝ }
+    ensures { λ _. ⌜ now (out .exit) ≡ now (s .entry) ++ drop (length (now (s .entry))) (now (out .entry)) ⌝ }
+{
+    let n = s.len();
+    let mut i: usize = 0;
+    while i < n {
+        out[i] = s[i];
+        i += 1;
+    }
+}

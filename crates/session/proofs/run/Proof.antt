@@ -1,0 +1,24 @@
+-- `session::run` meets its contract: the column names, the lines of all calls, and the last line.
+-- Assumes nothing.
+use Rattle.session.proofs.Sofar.{sizes-of, leaves}
+use borrow.Author.Needs.{needs}
+use Rattle.session.proofs.run.Statement.{statement}
+use Rattle.session.proofs.run.Tie as tie
+
+run-calls-requires : tie.Need-run-calls-requires
+run-calls-requires c κs =
+    let s = c .before .before .before .before .before .before .before .before .before .before .before in
+    sizes-of (s .args .commands .now) (s .args .«data» .now) (s .args .out .now) (s .args .table .now) _ _ _ (c .before .before .before .before .before .before .before .first .ensures) (c .before .before .before .before .before .first3 .ensures)
+    (search needs) (search needs) (c .before .before .put .ensures)
+
+returns : tie.Need-returns
+returns c =
+    let r = c .before .before .before in
+    let s = r .before .before .before .before .before .before .before .before .before .before .before .before in
+    leaves (s .args .commands .now) (s .args .tray .now) (s .args .«data» .now) (s .args .out .now) _ _ _ (r .before .before .before .before .before .before .before .before .first .ensures) (r .before .before .before .before .before .before .before .first2 .ensures)
+    (r .before .before .before .before .before .before .first3 .ensures) (r .run-calls .result) _ _ _ _ _ (r .run-calls .kept .1 .1 .1 .0) (r .run-calls .ensures) (c .before .before .accepted-of .ensures) (c .put-end .ensures)
+
+pub run-spec : {M : Type 1} → statement M
+run-spec =
+    tie.close (tie.spec (λ c κs. search needs) (λ c κs. search needs) (λ c κs. search needs) (search needs) (λ c κs. search needs) run-calls-requires (λ c κs. search needs) (λ c κs. search needs)
+    returns)

@@ -1,0 +1,15 @@
+-- `session::start` meets its contract: a fresh card, and nothing used or written.
+-- Assumes nothing.
+use mathlib.Core.Path.{ap}
+use Rattle.card.specs.declared.Card.{Card}
+use Rattle.session.specs.declared.Progress.{Progress}
+use borrow.Author.Needs.{needs}
+use Rattle.session.proofs.start.Statement.{statement}
+use Rattle.session.proofs.start.Tie as tie
+
+returns : tie.Need-returns
+returns c =
+    ap (λ (x : Card). record { card = x; command = 0; «data» = 0; out = 0; table = c .before .args .table; calls = 0; code = 0 }) (c .fresh .ensures)
+
+pub start-spec : {M : Type 1} → statement M
+start-spec = tie.close (tie.spec (λ c κs. search needs) returns)
