@@ -19,7 +19,8 @@ fn read_file(path: &[u8], label: &[u8], buf: &mut [u8]) -> isize {
     // a read that failed looks like the end of the file; one more read tells them apart
     let mut byte = [0u8; 1];
     let more = libc::read(fd, &mut byte);
-    if more < 0 {
+    let short = n < buf.len();
+    if more < 0 || short && more > 0 {
         os::fail(label);
         libc::close(fd);
         return -1;

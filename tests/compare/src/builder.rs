@@ -1,0 +1,97 @@
+//! A command list in the making. Each command is run by the second implementation as it is added, so that the list
+//! knows what stands on its lines, what is left of data and out, and which images its parks have written.
+
+use crate::command::PARK;
+use crate::machine::Machine;
+use crate::program::{Files, OUT, READ};
+use crate::random::Random;
+
+pub struct Builder {
+    pub random: Random,
+    /// The images that parks have written so far.
+    pub images: Vec<Vec<u8>>,
+    machine: Machine,
+    cmd: Vec<u8>,
+    tray: Vec<u8>,
+    data: Vec<u8>,
+    out: Vec<u8>,
+    used: usize,
+    written: usize,
+    refused: bool,
+}
+
+impl Builder {
+    /// An empty list with the contents of the tray and data files.
+    pub fn new(random: Random, tray: Vec<u8>, data: Vec<u8>) -> Builder {
+        Builder {
+            random,
+            images: Vec::new(),
+            machine: Machine::fresh(),
+            cmd: Vec::new(),
+            tray,
+            data,
+            out: vec![0; OUT],
+            used: 0,
+            written: 0,
+            refused: false,
+        }
+    }
+
+    /// Adds a command, and tells whether it is accepted. One that is beyond what is read of the file isn't added;
+    /// one after a refusal is added and not run, and counts as not accepted.
+    pub fn put(&mut self, command: &[u8]) -> bool {
+        if command.len() > self.room() {
+            return false;
+        }
+        self.cmd.extend(command);
+        if self.refused {
+            return false;
+        }
+        let tray = &self.tray[..self.tray.len().min(READ)];
+        let data = &self.data[self.used..self.data.len().min(READ)];
+        let out = &mut self.out[self.written..];
+        let answer = self.machine.call(command, tray, data, out);
+        if answer.code == 0 && command[0] == PARK {
+            self.images.push(out[..answer.written].to_vec());
+        }
+        self.refused = answer.code != 0;
+        self.used += answer.used_data;
+        self.written += answer.written;
+        !self.refused
+    }
+
+    /// How many bytes of commands can still be added.
+    pub fn room(&self) -> usize {
+        READ.saturating_sub(self.cmd.len())
+    }
+
+    pub fn tray(&self) -> &[u8] {
+        &self.tray
+    }
+
+    pub fn data_left(&self) -> usize {
+        self.data.len().min(READ) - self.used
+    }
+
+    pub fn out_left(&self) -> usize {
+        OUT - self.written
+    }
+
+    pub fn idle_lines(&self) -> Vec<u8> {
+        (0..8).filter(|&line| self.machine.open(line).is_none()).collect()
+    }
+
+    pub fn open_lines(&self) -> Vec<u8> {
+        (0..8).filter(|&line| self.machine.open(line).is_some()).collect()
+    }
+
+    /// The position of an open line; 0 of an idle one.
+    pub fn position(&self, line: u8) -> u64 {
+        self.machine.open(line).map_or(0, |(_, position)| position)
+    }
+
+    /// The files of the list as it stands.
+    pub fn files(self) -> Files {
+        Files { cmd: Some(self.cmd), tray: Some(self.tray), data: Some(self.data) }
+    }
+}

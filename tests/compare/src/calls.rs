@@ -1,0 +1,248 @@
+//! Lists of single calls, each with a command, tray, data and out of its own, and a comparison of any card that
+//! takes one call at a time. A refused call doesn't end such a list.
+
+use crate::command::{length, CRYPT, IMAGE, PARK};
+use crate::lists;
+use crate::machine::{Answer, Machine, Seen};
+use crate::named::Case;
+use crate::program::{self, Call};
+use crate::random::Random;
+use crate::subject::{first_difference, Subject, Tally};
+
+/// A call with its own buffers; `out` as it is before the call.
+#[derive(Clone, Debug, PartialEq, Eq)]
+pub struct OwnCall {
+    pub command: Vec<u8>,
+    pub tray: Vec<u8>,
+    pub data: Vec<u8>,
+    pub out: Vec<u8>,
+}
+
+/// No more calls than these are taken from one command list.
+const MOST: usize = 150;
+
+/// Call list `number` of `seed`: the calls of three command lists of that seed, mixed, on one card.
+pub fn list(seed: u64, number: u64) -> Vec<OwnCall> {
+    let mut random = Random::new(seed ^ 0xCA11, number);
+    let mut parts: Vec<Vec<OwnCall>> = (0..3).map(|i| part(&mut random, seed, 3 * number + i)).collect();
+    let mut calls = Vec::new();
+    while !parts.is_empty() {
+        let which = random.size(0, parts.len() - 1);
+        match parts[which].pop() {
+            Some(call) => calls.push(call),
+            None => drop(parts.remove(which)),
+        }
+    }
+    calls
+}
+
+/// The calls of a command list, last one first.
+fn part(random: &mut Random, seed: u64, number: u64) -> Vec<OwnCall> {
+    let list = lists::list(seed, number);
+    let run = program::run(&list.files);
+    let mut calls: Vec<OwnCall> = run.calls.iter().take(MOST).map(|(call, _)| own(random, call)).collect();
+    calls.reverse();
+    calls
+}
+
+/// A call with buffers about as long as it needs: some bytes to spare, none, or now and then one too few.
+fn own(random: &mut Random, call: &Call) -> OwnCall {
+    let first = call.command.first().copied().unwrap_or(0);
+    let count = count(call.command);
+    let written = if first == PARK { IMAGE } else { count };
+    let command = about(random, length(first).unwrap_or(5), call.command.len());
+    let data = about(random, count, call.data.len());
+    let out = about(random, written, call.out);
+    OwnCall {
+        command: call.command[..command].to_vec(),
+        tray: call.tray.to_vec(),
+        data: call.data[..data].to_vec(),
+        out: random.bytes(out),
+    }
+}
+
+/// The count of a crypt; 0 of any other command.
+fn count(command: &[u8]) -> usize {
+    match command {
+        [CRYPT, _, high, low, ..] => usize::from(*high) * 256 + usize::from(*low),
+        _ => 0,
+    }
+}
+
+/// A length at most `most`, near `needed`.
+fn about(random: &mut Random, needed: usize, most: usize) -> usize {
+    let length = match random.between(0, 19) {
+        0 => 0,
+        1 => needed.saturating_sub(1),
+        2..=9 => needed,
+        _ => needed + random.size(1, 40),
+    };
+    length.min(most)
+}
+
+/// A card that takes one call at a time.
+pub trait Card {
+    fn name(&self) -> String;
+
+    /// Makes the card a fresh one.
+    fn refresh(&mut self);
+
+    /// One call on the card that the call before left.
+    fn call(&mut self, command: &[u8], tray: &[u8], data: &[u8], out: &mut [u8]) -> Answer;
+
+    /// What is seen of the eight lines, or nothing if the card doesn't show them.
+    fn lines(&self) -> Option<Vec<Option<Seen>>> {
+        None
+    }
+}
+
+impl Card for Machine {
+    fn name(&self) -> String {
+        "the plain machine".to_string()
+    }
+
+    fn refresh(&mut self) {
+        *self = Machine::fresh();
+    }
+
+    fn call(&mut self, command: &[u8], tray: &[u8], data: &[u8], out: &mut [u8]) -> Answer {
+        Machine::call(self, command, tray, data, out)
+    }
+
+    fn lines(&self) -> Option<Vec<Option<Seen>>> {
+        Some((0..8).map(|line| self.seen(line)).collect())
+    }
+}
+
+/// A card as a subject: call lists are run on it call by call beside the plain machine.
+pub struct CallByCall<C: Card> {
+    pub card: C,
+}
+
+impl<C: Card> Subject for CallByCall<C> {
+    fn name(&self) -> String {
+        self.card.name()
+    }
+
+    fn hold_case(&mut self, case: &Case) -> Result<Tally, String> {
+        let run = program::run(&case.list.files);
+        let calls: Vec<OwnCall> = run.calls.iter().map(|(call, _)| lent(call)).collect();
+        let tally = self.hold_calls(&calls).map_err(|told| format!("named case \"{}\", {told}", case.name()))?;
+        Ok(Tally { named: 1, ..tally })
+    }
+
+    fn hold(&mut self, seed: u64, number: u64) -> Result<Tally, String> {
+        let tally = self.hold_calls(&list(seed, number));
+        let tally = tally.map_err(|told| format!("call list {number} of seed {seed}, {told}"))?;
+        Ok(Tally { lists: 1, ..tally })
+    }
+}
+
+impl<C: Card> CallByCall<C> {
+    /// Makes calls on a fresh card.
+    fn hold_calls(&mut self, calls: &[OwnCall]) -> Result<Tally, String> {
+        let (mut machine, mut tally) = (Machine::fresh(), Tally::default());
+        self.card.refresh();
+        for (i, call) in calls.iter().enumerate() {
+            let answer = hold_call(&mut machine, &mut self.card, call);
+            tally.count(&answer.map_err(|told| format!("call {}: {told}", i + 1))?);
+        }
+        Ok(tally)
+    }
+}
+
+/// A call with the buffers that the program lends, out all zeros.
+fn lent(call: &Call) -> OwnCall {
+    let (command, tray) = (call.command.to_vec(), call.tray.to_vec());
+    OwnCall { command, tray, data: call.data.to_vec(), out: vec![0; call.out] }
+}
+
+/// Makes one call on both and compares the answers, out as a whole and the lines; gives the machine's answer.
+fn hold_call(machine: &mut Machine, card: &mut dyn Card, call: &OwnCall) -> Result<Answer, String> {
+    let (mut wanted_out, mut got_out) = (call.out.clone(), call.out.clone());
+    let wanted = machine.call(&call.command, &call.tray, &call.data, &mut wanted_out);
+    let got = card.call(&call.command, &call.tray, &call.data, &mut got_out);
+    if wanted != got {
+        return Err(format!("the answer is {got:?}, expected {wanted:?}"));
+    }
+    if let Some(told) = first_difference(&wanted_out, &got_out) {
+        return Err(format!("out: {told}"));
+    }
+    for (line, seen) in (0..8).zip(card.lines().into_iter().flatten()) {
+        if seen != machine.seen(line) {
+            return Err(format!("line {line} is {seen:?}, expected {:?}", machine.seen(line)));
+        }
+    }
+    Ok(wanted)
+}
+
+#[cfg(test)]
+mod tests {
+    use super::*;
+    use crate::named;
+
+    /// A card that is the machine but for what `fault` does, after a call, to the answer and to out.
+    struct Faulty {
+        machine: Machine,
+        fault: fn(command: &[u8], &mut Answer, &mut [u8]),
+    }
+
+    impl Card for Faulty {
+        fn name(&self) -> String {
+            "a faulty card".to_string()
+        }
+
+        fn refresh(&mut self) {
+            self.machine = Machine::fresh();
+        }
+
+        fn call(&mut self, command: &[u8], tray: &[u8], data: &[u8], out: &mut [u8]) -> Answer {
+            let mut answer = self.machine.call(command, tray, data, out);
+            (self.fault)(command, &mut answer, out);
+            answer
+        }
+    }
+
+    fn held<C: Card>(card: C) -> Result<Tally, String> {
+        let mut subject = CallByCall { card };
+        let mut tally = Tally::default();
+        for case in named::all().iter().take(60) {
+            tally.add(&subject.hold_case(case)?);
+        }
+        for number in 0..60 {
+            tally.add(&subject.hold(7, number)?);
+        }
+        Ok(tally)
+    }
+
+    fn told(fault: fn(&[u8], &mut Answer, &mut [u8])) -> String {
+        let machine = Machine::fresh();
+        held(Faulty { machine, fault }).unwrap_err()
+    }
+
+    #[test]
+    fn the_machine_agrees_with_itself_and_meets_every_code() {
+        let tally = held(Machine::fresh()).unwrap();
+        assert!(tally.codes.iter().all(|&count| count > 0), "{:?}", tally.codes);
+    }
+
+    #[test]
+    fn a_refusal_that_writes_is_found() {
+        let told = told(|_, answer, out| {
+            if let (6, Some(first)) = (answer.code, out.first_mut()) {
+                *first ^= 1;
+            }
+        });
+        assert!(told.contains("out: byte 0"), "{told}");
+    }
+
+    #[test]
+    fn twelve_before_eleven_is_found() {
+        let told = told(|command, answer, out| {
+            if answer.code == 11 && out.len() < count(command) {
+                answer.code = 12;
+            }
+        });
+        assert!(told.contains("code: 12") && told.contains("expected Answer { code: 11"), "{told}");
+    }
+}

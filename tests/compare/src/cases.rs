@@ -1,0 +1,104 @@
+//! The worked cases, edges and example of document 01, checked of the second implementation before it is used.
+
+use crate::command::{self, IMAGE};
+use crate::machine::{Answer, Machine, END};
+use crate::program::{self, Files};
+use crate::{aes, hex, rabbit, snow2, zuc};
+
+/// Checks all cases; tells how many there are, or the first that fails.
+pub fn check() -> Result<usize, String> {
+    let cases: Vec<(&str, bool)> = values().into_iter().chain(edges()).chain(example()).collect();
+    match cases.iter().find(|(_, holds)| !holds) {
+        Some((name, _)) => Err(format!("a case of document 01 fails: {name}")),
+        None => Ok(cases.len()),
+    }
+}
+
+/// The table of values.
+fn values() -> Vec<(&'static str, bool)> {
+    let zeros = zuc::load(&[0; 16], &[0; 16]);
+    let ones = zuc::load(&[0xFF; 16], &[0xFF; 16]);
+    let key = [&[0x80][..], &[0; 15]].concat();
+    let iv: Vec<u8> = [4u32, 3, 2, 1].iter().flat_map(|word| word.to_be_bytes()).collect();
+    let loaded = snow2::load(&key, &iv);
+    vec![
+        ("SUB1[0] = 3e", zuc::SUB1[0] == 0x3E),
+        ("SUB1[255] = 60", zuc::SUB1[255] == 0x60),
+        ("SUB2[0] = 55", zuc::SUB2[0] == 0x55),
+        ("SUB2[255] = f2", zuc::SUB2[255] == 0xF2),
+        ("cell 0 of zero key and IV is 0044D700", zeros[0] == 0x0044_D700),
+        ("cell 15 of all-ff key and IV is 7FC7ACFF", ones[15] == 0x7FC7_ACFF),
+        ("cells of 2^31 - 1 feed back 2^31 - 1", zuc::feedback(&[zuc::TOP; 16], 0) == zuc::TOP),
+        ("L1(1) = 01040405", zuc::l1(1) == 0x0104_0405),
+        ("L2(1) = 40404101", zuc::l2(1) == 0x4040_4101),
+        ("g(ffffffff, 0) = ffffffff", rabbit::g(u32::MAX, 0) == u32::MAX),
+        ("g(ffffffff, 1) = 0", rabbit::g(u32::MAX, 1) == 0),
+        ("T(0) = 63636363", aes::t(0) == 0x6363_6363),
+        ("alpha times 00000001 = 00000100", snow2::times_alpha(1) == 0x0100),
+        ("SNOW loads s15 = 80000001", loaded[15] == 0x8000_0001),
+        ("SNOW loads s12 = 2", loaded[12] == 2),
+        ("SNOW loads s10 = fffffffc", loaded[10] == 0xFFFF_FFFC),
+        ("SNOW loads s9 = fffffffb", loaded[9] == 0xFFFF_FFFB),
+    ]
+}
+
+/// The edges, and the acceptances beside them.
+fn edges() -> Vec<(&'static str, bool)> {
+    let opened = |tray: usize| code(&[], &command::open_tray(0, 4, 0, &[0; 16]), tray, 0, 0);
+    let last = [command::resume(0, &last_byte())];
+    let own = [command::open_own(7, 2, &[0; 32], &[0; 16])];
+    vec![
+        ("n = 2^36 - 1 with count 1 is accepted", code(&last, &command::crypt(0, 1), 0, 9, 9) == 0),
+        ("n = 2^36 - 1 with count 2 is 13", code(&last, &command::crypt(0, 2), 0, 0, 0) == 13),
+        ("a tray of 8,192 passes", opened(8_192) == 0),
+        ("a tray of 8,224 is 9", opened(8_224) == 9),
+        ("an empty tray is 10", opened(0) == 10),
+        ("out of 88 bytes for park is 12", code(&own, &command::park(7), 0, 0, 88) == 12),
+        ("out of 89 bytes for park is enough", code(&own, &command::park(7), 0, 0, 89) == 0),
+        ("count 0 needs neither data nor out", code(&own, &command::crypt(7, 0), 0, 0, 0) == 0),
+        ("an empty command is 1", code(&[], &[], 0, 0, 0) == 1),
+        ("an unknown command is 2 though it is short", code(&[], &[7], 0, 0, 0) == 2),
+    ]
+}
+
+/// An image of a SNOW line one byte before the end.
+fn last_byte() -> Vec<u8> {
+    command::padded(&[&[3][..], &(END - 1).to_be_bytes()].concat(), IMAGE)
+}
+
+/// The code of a command after others on a fresh machine, with zeros in tray, data and out of the lengths given; 255
+/// if one of the others is refused or a refusal counts bytes.
+fn code(before: &[Vec<u8>], command: &[u8], tray: usize, data: usize, out: usize) -> u8 {
+    let mut machine = Machine::fresh();
+    let accepted = before.iter().all(|earlier| machine.call(earlier, &[], &[], &mut []).code == 0);
+    let answer = machine.call(command, &vec![0; tray], &vec![0; data], &mut vec![0; out]);
+    let counts = answer.code != 0 && answer != Answer::refused(answer.code);
+    if accepted && !counts {
+        answer.code
+    } else {
+        255
+    }
+}
+
+/// The example of `cardrun`.
+fn example() -> Vec<(&'static str, bool)> {
+    let key = command::padded(&[0x80], 32);
+    let cmd = [command::open_own(0, 3, &key, &[0; 16]), command::crypt(0, 16)].concat();
+    let files = Files { cmd: Some(cmd), tray: Some(Vec::new()), data: Some(vec![0; 16]) };
+    let run = program::run(&files);
+    let table = "call code cmd data out\n1 0 51 0 0\n2 0 4 16 16\nend 2 0\n";
+    vec![
+        ("the example's table", run.table() == table),
+        ("the example's out.bin", hex::write(&run.out) == "8d590ae9a74a7d056dc9ca74b72d1a45"),
+    ]
+}
+
+#[cfg(test)]
+mod tests {
+    use super::*;
+
+    #[test]
+    fn cases_hold() {
+        assert_eq!(check(), Ok(29));
+    }
+}

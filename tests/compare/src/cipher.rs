@@ -1,0 +1,84 @@
+//! What a keystream generator is: its row in document 01's table, and functions on a state of 32-bit words.
+
+use crate::{kcipher2, rabbit, snow2, zuc};
+
+/// A state, its words in the order of the state bytes; Rabbit's carry is a word of its own at the end.
+pub type State = Vec<u32>;
+
+/// A row of the table of ciphers: the number, and lengths in bytes.
+#[derive(Clone, Copy, Debug, PartialEq, Eq)]
+pub struct Shape {
+    pub number: u8,
+    pub key: usize,
+    pub iv: usize,
+    pub unit: usize,
+    pub state: usize,
+}
+
+/// A keystream generator.
+pub trait Cipher: Sync {
+    fn shape(&self) -> Shape;
+
+    /// S(0) of a key and an IV, which have the lengths of `shape`.
+    fn init(&self, key: &[u8], iv: &[u8]) -> State;
+
+    /// Takes S(i) to S(i+1).
+    fn next(&self, state: &mut State);
+
+    /// The unit of keystream bytes that a state gives, first byte first.
+    fn strm(&self, state: &State) -> Vec<u8>;
+
+    /// The state as it stands in an image: big-endian words.
+    fn state_bytes(&self, state: &State) -> Vec<u8> {
+        state.iter().flat_map(|word| word.to_be_bytes()).collect()
+    }
+
+    /// The state that has these bytes; their number is that of `shape`.
+    fn state_of(&self, bytes: &[u8]) -> State {
+        words(bytes)
+    }
+
+    /// Whether an image may hold the state.
+    fn admits(&self, _state: &State) -> bool {
+        true
+    }
+}
+
+/// The cipher of a number; none but 1 to 5.
+pub fn by_number(number: u8) -> Option<&'static dyn Cipher> {
+    match number {
+        1 => Some(&zuc::Zuc),
+        2 => Some(&rabbit::Rabbit),
+        3 => Some(&snow2::Snow2 { key: 16 }),
+        4 => Some(&snow2::Snow2 { key: 32 }),
+        5 => Some(&kcipher2::Kcipher2),
+        _ => None,
+    }
+}
+
+/// The big-endian words of a string of bytes; bytes beyond the last whole word are left out.
+pub fn words(bytes: &[u8]) -> Vec<u32> {
+    let word = |four: &[u8]| four.iter().fold(0, |w, &byte| (w << 8) | u32::from(byte));
+    bytes.chunks_exact(4).map(word).collect()
+}
+
+#[cfg(test)]
+mod tests {
+    use super::*;
+
+    #[test]
+    fn state_bytes_are_read_back() {
+        for number in 1..=5 {
+            let cipher = by_number(number).unwrap();
+            let shape = cipher.shape();
+            assert_eq!(shape.number, number);
+            let key: Vec<u8> = (1..).take(shape.key).collect();
+            let state = cipher.init(&key, &key[..shape.iv]);
+            let bytes = cipher.state_bytes(&state);
+            assert_eq!(bytes.len(), shape.state);
+            assert_eq!(cipher.state_of(&bytes), state);
+            assert_eq!(cipher.strm(&state).len(), shape.unit);
+            assert!(cipher.admits(&state));
+        }
+    }
+}

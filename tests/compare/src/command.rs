@@ -1,0 +1,61 @@
+//! The six commands as bytes: their lengths, where their operands stand, and writers for them.
+
+pub const OPEN_TRAY: u8 = 1;
+pub const OPEN_OWN: u8 = 2;
+pub const CRYPT: u8 = 3;
+pub const PARK: u8 = 4;
+pub const RESUME: u8 = 5;
+pub const CLOSE: u8 = 6;
+
+/// The length of an image.
+pub const IMAGE: usize = 89;
+
+/// The length of a tray record, and of the key in command 02.
+pub const RECORD: usize = 32;
+
+/// The length of an IV in a command.
+pub const IV: usize = 16;
+
+/// The whole length of the command with this first byte; nothing if there is none.
+pub fn length(first: u8) -> Option<usize> {
+    match first {
+        OPEN_TRAY => Some(4 + IV),
+        OPEN_OWN => Some(3 + RECORD + IV),
+        CRYPT => Some(4),
+        PARK | CLOSE => Some(2),
+        RESUME => Some(2 + IMAGE),
+        _ => None,
+    }
+}
+
+pub fn open_tray(line: u8, cipher: u8, key_number: u8, iv: &[u8]) -> Vec<u8> {
+    [&[OPEN_TRAY, line, cipher, key_number], iv].concat()
+}
+
+pub fn open_own(line: u8, cipher: u8, key: &[u8], iv: &[u8]) -> Vec<u8> {
+    [&[OPEN_OWN, line, cipher], key, iv].concat()
+}
+
+pub fn crypt(line: u8, count: u16) -> Vec<u8> {
+    let [high, low] = count.to_be_bytes();
+    vec![CRYPT, line, high, low]
+}
+
+pub fn park(line: u8) -> Vec<u8> {
+    vec![PARK, line]
+}
+
+pub fn resume(line: u8, image: &[u8]) -> Vec<u8> {
+    [&[RESUME, line], image].concat()
+}
+
+pub fn close(line: u8) -> Vec<u8> {
+    vec![CLOSE, line]
+}
+
+/// `bytes`, then zeros up to `length`.
+pub fn padded(bytes: &[u8], length: usize) -> Vec<u8> {
+    let mut whole = bytes.to_vec();
+    whole.resize(length, 0);
+    whole
+}

@@ -1,0 +1,112 @@
+//! The last command of a list that ends in a refusal, with the faults that its plan names.
+
+use crate::builder::Builder;
+use crate::command::{self, CRYPT, OPEN_OWN, OPEN_TRAY, PARK, RECORD, RESUME};
+use crate::machine::END;
+use crate::plan::Plan;
+use crate::{images, plain, trays};
+
+/// The last command, with the faults that it holds itself.
+pub fn command(b: &mut Builder, plan: &Plan, line: u8) -> Vec<u8> {
+    let mut command = match plan.kind {
+        OPEN_TRAY => open_tray(b, plan, line),
+        OPEN_OWN => open_own(b, plan, line),
+        CRYPT => {
+            let count = count(b, plan, line);
+            command::crypt(line, count)
+        }
+        PARK => command::park(line),
+        RESUME if plan.has(8) => command::resume(line, &images::bad(&mut b.random, plan.image)),
+        RESUME => command::resume(line, &images::elsewhere(&mut b.random)),
+        _ => command::close(line),
+    };
+    if plan.has(2) {
+        let any = b.random.between(7, 255) as u8;
+        command[0] = b.random.pick(&[0, 7, 8, 9, 10, 255, any]);
+    }
+    if plan.has(1) {
+        let length = b.random.size(1, command.len() - 1);
+        command.truncate(length);
+    }
+    command
+}
+
+/// A cipher to make operands for; with fault 7, one whose key or IV leaves bytes over.
+fn cipher(b: &mut Builder, plan: &Plan) -> u8 {
+    if plan.stray_iv() {
+        2
+    } else if plan.stray_key() {
+        b.random.pick(&[1, 2, 3, 5])
+    } else {
+        b.random.between(1, 5) as u8
+    }
+}
+
+/// The cipher operand: the cipher itself, or with fault 4 a number that is none.
+fn cipher_operand(b: &mut Builder, plan: &Plan, cipher: u8) -> u8 {
+    let any = b.random.between(6, 255) as u8;
+    if plan.has(4) {
+        b.random.pick(&[0, 6, 7, 8, 255, any])
+    } else {
+        cipher
+    }
+}
+
+/// An IV, with a stray byte beyond Rabbit's length if one is planned.
+fn iv(b: &mut Builder, plan: &Plan, cipher: u8) -> Vec<u8> {
+    let mut iv = plain::iv(&mut b.random, cipher);
+    if plan.stray_iv() {
+        iv[b.random.place(plan.place, 8, 15)] = b.random.odd_byte();
+    }
+    iv
+}
+
+fn open_tray(b: &mut Builder, plan: &Plan, line: u8) -> Vec<u8> {
+    let cipher = cipher(b, plan);
+    let iv = iv(b, plan, cipher);
+    let number = key_number(b, plan, cipher);
+    let operand = cipher_operand(b, plan, cipher);
+    command::open_tray(line, operand, number, &iv)
+}
+
+/// A key number with fault 10 or a stray byte, or one with neither; any if the tray has none such.
+fn key_number(b: &mut Builder, plan: &Plan, cipher: u8) -> u8 {
+    let records = b.tray().len() / RECORD;
+    if plan.has(10) && records < 256 {
+        let any = b.random.between(records as u64, 255) as u8;
+        return b.random.pick(&[records as u8, 255, any]);
+    }
+    let stray = plan.stray_key();
+    let keys = if stray { trays::stray_keys(b.tray(), cipher) } else { trays::keys(b.tray(), cipher) };
+    match keys.last() {
+        Some(&last) if stray => last,
+        Some(_) => b.random.pick(&keys),
+        None => b.random.byte(),
+    }
+}
+
+fn open_own(b: &mut Builder, plan: &Plan, line: u8) -> Vec<u8> {
+    let cipher = cipher(b, plan);
+    let iv = iv(b, plan, cipher);
+    let mut key = plain::key(&mut b.random, cipher);
+    if plan.stray_key() {
+        key[b.random.place(plan.place, 16, RECORD - 1)] = b.random.odd_byte();
+    }
+    let operand = cipher_operand(b, plan, cipher);
+    command::open_own(line, operand, &key, &iv)
+}
+
+/// A count above the limits whose fault is planned and within the others, as far as that can be had; often the
+/// least such.
+fn count(b: &mut Builder, plan: &Plan, line: u8) -> u16 {
+    let position = if line < 8 { b.position(line) } else { 0 };
+    let to_end = usize::try_from(END - position).unwrap_or(usize::MAX);
+    let limits = [(13, to_end), (11, b.data_left()), (12, b.out_left())];
+    let above = limits.iter().filter(|(n, _)| plan.has(*n)).map(|(_, limit)| limit.saturating_add(1));
+    let within = limits.iter().filter(|(n, _)| !plan.has(*n)).map(|(_, limit)| *limit);
+    let most = usize::from(u16::MAX);
+    let low = above.max().unwrap_or(0).min(most);
+    let high = within.min().unwrap_or(most).min(most).max(low);
+    let any = b.random.size(low, high);
+    b.random.pick(&[low, any]) as u16
+}

@@ -1,0 +1,38 @@
+//! A second implementation of the cipher card, written from the documents and sharing neither code nor tables with
+//! the card's own sources, and what is needed to hold a card against it: named cases, command lists from a seed and
+//! subjects that run them.
+
+#![forbid(unsafe_code)]
+
+pub mod aes;
+pub mod annex;
+pub mod args;
+pub mod builder;
+pub mod calls;
+pub mod cardrun;
+pub mod cases;
+pub mod cipher;
+pub mod command;
+pub mod damage;
+pub mod edges;
+pub mod faulty;
+pub mod field;
+pub mod fill;
+pub mod hex;
+pub mod images;
+pub mod kcipher2;
+pub mod lists;
+pub mod machine;
+pub mod named;
+pub mod odd;
+pub mod plain;
+pub mod plan;
+pub mod program;
+pub mod rabbit;
+pub mod random;
+pub mod report;
+pub mod snow2;
+pub mod subject;
+pub mod trays;
+pub mod zeros;
+pub mod zuc;

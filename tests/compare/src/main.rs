@@ -1,0 +1,67 @@
+//! Checks the second implementation by annex C, document 01's cases and what named cases have written down, then
+//! holds `cardrun` against it on the named cases and on command lists from a seed. Ends with 0 if all agree and every
+//! number was met, else with 1.
+
+#![forbid(unsafe_code)]
+
+use compare::args::{self, Options};
+use compare::cardrun::Cardrun;
+use compare::report::{self, Progress};
+use compare::subject::{Subject, Tally};
+use compare::{annex, cases, named};
+use std::process::ExitCode;
+
+fn main() -> ExitCode {
+    let outcome = args::read(std::env::args().skip(1)).map_err(|told| format!("{told}\n{}", args::USAGE));
+    match outcome.and_then(|options| run(&options)) {
+        Ok(()) => ExitCode::SUCCESS,
+        Err(told) => {
+            eprintln!("{told}");
+            ExitCode::FAILURE
+        }
+    }
+}
+
+fn run(options: &Options) -> Result<(), String> {
+    if options.help {
+        println!("{}", args::USAGE);
+        return Ok(());
+    }
+    println!("annex C: {} keystreams and sample states agree", annex::check()?);
+    println!("document 01: {} cases hold", cases::check()?);
+    println!("named cases: {} hold of the second implementation", named::check()?);
+    if options.lists == 0 {
+        return Ok(());
+    }
+    let program = options.cardrun.clone().unwrap_or_else(args::usual_place);
+    let mut subject = Cardrun::new(&program, options.keep)?;
+    println!("seed {}, {}", options.seed, subject.name());
+    let tally = hold(&mut subject, options)?;
+    print!("{}", report::summary(&tally));
+    let missing = report::missing(&tally);
+    if options.only.is_none() && !missing.is_empty() {
+        return Err(format!("never met: {missing:?}"));
+    }
+    Ok(())
+}
+
+/// Runs the named cases, if all lists are asked for, and the lists, up to the first that differs.
+fn hold(subject: &mut dyn Subject, options: &Options) -> Result<Tally, String> {
+    let numbers = match options.only {
+        Some(number) => number..number + 1,
+        None => 0..options.lists,
+    };
+    let progress = Progress::new(numbers.end - numbers.start);
+    let mut sum = Tally::default();
+    if options.only.is_none() {
+        for case in named::all() {
+            sum.add(&subject.hold_case(&case)?);
+        }
+    }
+    for number in numbers {
+        let again = format!("to run it again: compare --seed {} --only {number}", options.seed);
+        sum.add(&subject.hold(options.seed, number).map_err(|told| format!("{told}\n{again}"))?);
+        progress.at(sum.lists);
+    }
+    Ok(sum)
+}

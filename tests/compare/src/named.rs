@@ -1,0 +1,55 @@
+//! Named cases: fixed command lists, each with its end and often its table or the bytes of `out.bin` written down
+//! beside it. What is written down is held of the second implementation, and the subject is held against that.
+
+mod case;
+mod examples;
+mod frames;
+mod full;
+mod images;
+mod limits;
+mod order;
+mod parks;
+mod positions;
+mod published;
+mod refusals;
+mod reuse;
+
+pub use case::Case;
+
+/// All named cases.
+pub fn all() -> Vec<Case> {
+    let groups = [
+        examples::cases(),
+        refusals::cases(),
+        order::cases(),
+        frames::cases(),
+        parks::cases(),
+        reuse::cases(),
+        positions::cases(),
+        images::cases(),
+        limits::cases(),
+        full::cases(),
+    ];
+    groups.into_iter().flatten().collect()
+}
+
+/// Holds all cases of the second implementation; tells how many there are, or the first that fails.
+pub fn check() -> Result<usize, String> {
+    let cases = all();
+    cases.iter().try_for_each(Case::check)?;
+    Ok(cases.len())
+}
+
+#[cfg(test)]
+mod tests {
+    use super::*;
+    use std::collections::HashSet;
+
+    #[test]
+    fn cases_hold_and_have_names_of_their_own() {
+        assert_eq!(check(), Ok(609));
+        let cases = all();
+        let names: HashSet<&str> = cases.iter().map(Case::name).collect();
+        assert_eq!(names.len(), cases.len());
+    }
+}

@@ -1,0 +1,145 @@
+//! Lines parked and resumed, on the same line and on others, at a unit's end and within a unit: what comes before
+//! and after is one stream, and an image can be resumed more than once.
+
+use super::published::{self, text, Published};
+use super::Case;
+use crate::builder::Builder;
+use crate::command::{self, IMAGE};
+use crate::images::image;
+use crate::random::Random;
+
+pub fn cases() -> Vec<Case> {
+    let each = |p: &Published| {
+        [
+            once(p, "at a unit's end", &[3, 13], &[5, 11]),
+            once(p, "within a unit", &[1, 2, 3, 5], &[7, 13, 1]),
+            everywhere(p),
+            over_and_over(p),
+            together(p),
+            one_after_the_other(p),
+        ]
+    };
+    published::each().iter().flat_map(each).collect()
+}
+
+/// A list in the making with this data and no tray.
+fn list(data: Vec<u8>) -> Builder {
+    Builder::new(Random::new(0, 0), Vec::new(), data)
+}
+
+/// Adds frames on a line.
+fn frames(b: &mut Builder, line: u8, counts: &[u16]) {
+    for &count in counts {
+        b.put(&command::crypt(line, count));
+    }
+}
+
+/// Parks a line; gives the image.
+fn park(b: &mut Builder, line: u8) -> Vec<u8> {
+    b.put(&command::park(line));
+    b.images.last().cloned().unwrap_or_default()
+}
+
+/// Parks one line and resumes on another.
+fn carry(b: &mut Builder, from: u8, to: u8) {
+    let image = park(b, from);
+    b.put(&command::resume(to, &image));
+}
+
+/// The first bytes of an image: the cipher and the position.
+fn head(p: &Published, position: usize) -> Vec<u8> {
+    image(p.cipher, position as u64, &[])[..9].to_vec()
+}
+
+/// Annex C's keystream with a park in it, the frames before and after together 32 bytes.
+fn once(p: &Published, what: &str, before: &[u16], after: &[u16]) -> Case {
+    let mut b = list(vec![0; 32]);
+    b.put(&p.open(0));
+    frames(&mut b, 0, before);
+    carry(&mut b, 0, 5);
+    frames(&mut b, 5, after);
+    let parked: usize = before.iter().sum::<u16>().into();
+    let end = format!("end {} 0", 3 + before.len() + after.len());
+    let case = Case::of(format!("{}: parked {what}, resumed on another line", p.name()), b.files(), end);
+    let case = case.part(0, &p.stream[..parked]).part(parked, &head(p, parked));
+    case.part(parked + IMAGE, &p.stream[parked..32])
+}
+
+/// Annex C's keystream with a park after each number of bytes, 0 to 32.
+fn everywhere(p: &Published) -> Case {
+    let mut b = list(vec![0; 33 * 32]);
+    for (parked, line) in (0..=32).zip((0..8).cycle()) {
+        let other = (line + 3) % 8;
+        b.put(&p.open(line));
+        frames(&mut b, line, &[parked]);
+        carry(&mut b, line, other);
+        frames(&mut b, other, &[32 - parked]);
+        b.put(&command::close(other));
+    }
+    let mut case = Case::of(format!("{}: parked after each of 0 to 32 bytes", p.name()), b.files(), "end 198 0");
+    for parked in 0..=32 {
+        let at = parked * (32 + IMAGE);
+        case = case.part(at, &p.stream[..parked]).part(at + parked, &head(p, parked));
+        case = case.part(at + parked + IMAGE, &p.stream[parked..32]);
+    }
+    case
+}
+
+/// One crypt of 700 bytes on line 7, and the same text on lines 0, 3 and 4 in turn and on 3 again, in odd frames.
+/// Line 0 is parked after 181 bytes, line 3 after 256, where a unit of every cipher ends, and line 4 after 411.
+fn over_and_over(p: &Published) -> Case {
+    let mut b = list(text(700).repeat(2));
+    b.put(&p.open(7));
+    frames(&mut b, 7, &[700]);
+    b.put(&p.open(0));
+    frames(&mut b, 0, &[97, 1, 83]);
+    carry(&mut b, 0, 3);
+    frames(&mut b, 3, &[5, 67, 3]);
+    carry(&mut b, 3, 4);
+    frames(&mut b, 4, &[11, 131, 13]);
+    carry(&mut b, 4, 3);
+    frames(&mut b, 3, &[2, 0, 287]);
+    let name = format!("{}: parked three times, against one crypt", p.name());
+    let case = Case::of(name, b.files(), "end 21 0");
+    case.part(881, &head(p, 181))
+        .part(1_045, &head(p, 256))
+        .part(1_289, &head(p, 411))
+        .joined(0..700, &[700..881, 881 + IMAGE..1_045, 1_045 + IMAGE..1_289, 1_289 + IMAGE..1_667])
+}
+
+/// An image resumed on two lines that are open at once, with frames in turn.
+fn together(p: &Published) -> Case {
+    let mut b = list(vec![0; 6 + 2 * 26]);
+    b.put(&p.open(2));
+    frames(&mut b, 2, &[6]);
+    let image = park(&mut b, 2);
+    b.put(&command::resume(1, &image));
+    b.put(&command::resume(6, &image));
+    for count in [3, 7, 16] {
+        frames(&mut b, 1, &[count]);
+        frames(&mut b, 6, &[count]);
+    }
+    let case = Case::of(format!("{}: an image resumed on two lines", p.name()), b.files(), "end 11 0");
+    let case = case.part(0, &p.stream[..6]).part(95, &p.stream[6..9]).part(98, &p.stream[6..9]);
+    let case = case.part(101, &p.stream[9..16]).part(108, &p.stream[9..16]);
+    case.part(115, &p.stream[16..32]).part(131, &p.stream[16..32])
+}
+
+/// An image resumed on the line that it was parked from, closed, resumed there again, parked and resumed again.
+fn one_after_the_other(p: &Published) -> Case {
+    let mut b = list(vec![0; 9 + 3 * 23]);
+    b.put(&p.open(2));
+    frames(&mut b, 2, &[9]);
+    let image = park(&mut b, 2);
+    for _ in 0..2 {
+        b.put(&command::resume(2, &image));
+        frames(&mut b, 2, &[23]);
+        b.put(&command::close(2));
+    }
+    b.put(&command::resume(2, &image));
+    carry(&mut b, 2, 2);
+    frames(&mut b, 2, &[23]);
+    let case = Case::of(format!("{}: an image resumed three times on its line", p.name()), b.files(), "end 13 0");
+    let case = case.part(98, &p.stream[9..32]).part(121, &p.stream[9..32]);
+    case.part(144 + IMAGE, &p.stream[9..32]).same(9..98, 144..233)
+}

@@ -1,0 +1,166 @@
+//! A case for each refusal, 1 to 13, and the same for each command that can meet it. Number 8 has its conditions in
+//! `images`, 12 its limits in `full` and 13 in `positions`. The program never calls with an empty command.
+
+use super::published::name;
+use super::{full, positions, Case};
+use crate::command::{self, IMAGE, RECORD};
+
+pub fn cases() -> Vec<Case> {
+    let groups = [numbers(), cut_short(), unknown(), lines(), ciphers(), open_or_idle(), stray(), trays(), data()];
+    groups.into_iter().flatten().collect()
+}
+
+/// An open that is accepted on an idle line, whatever the tray.
+pub fn open(line: u8) -> Vec<u8> {
+    command::open_own(line, 4, &[1; RECORD], &[2; 16])
+}
+
+/// One of each command for a line, operands 0 but for the cipher, which is 4.
+pub fn each(line: u8) -> [Vec<u8>; 6] {
+    [
+        command::open_tray(line, 4, 0, &[0; 16]),
+        command::open_own(line, 4, &[0; RECORD], &[0; 16]),
+        command::crypt(line, 0),
+        command::park(line),
+        command::resume(line, &[&[4], &[0; IMAGE - 1][..]].concat()),
+        command::close(line),
+    ]
+}
+
+/// A case that ends with this number after `before`, which are accepted.
+fn refused(number: u8, what: impl AsRef<str>, before: &[Vec<u8>], last: Vec<u8>) -> Case {
+    let name = format!("number {number}: {}", what.as_ref());
+    Case::new(name, &[before, &[last]].concat(), format!("end {} {number}", before.len()))
+}
+
+const ONE: &str = "call code cmd data out\n1 1 0 0 0\nend 0 1\n";
+const TWO: &str = "call code cmd data out\n1 2 0 0 0\nend 0 2\n";
+const THREE: &str = "call code cmd data out\n1 3 0 0 0\nend 0 3\n";
+const FOUR: &str = "call code cmd data out\n1 4 0 0 0\nend 0 4\n";
+const FIVE: &str = "call code cmd data out\n1 0 51 0 0\n2 5 0 0 0\nend 1 5\n";
+const SIX: &str = "call code cmd data out\n1 6 0 0 0\nend 0 6\n";
+const SEVEN: &str = "call code cmd data out\n1 7 0 0 0\nend 0 7\n";
+const EIGHT: &str = "call code cmd data out\n1 8 0 0 0\nend 0 8\n";
+const NINE: &str = "call code cmd data out\n1 9 0 0 0\nend 0 9\n";
+const TEN: &str = "call code cmd data out\n1 10 0 0 0\nend 0 10\n";
+const ELEVEN: &str = "call code cmd data out\n1 0 51 0 0\n2 11 0 0 0\nend 1 11\n";
+const THIRTEEN: &str = "call code cmd data out\n1 0 91 0 0\n2 13 0 0 0\nend 1 13\n";
+
+/// One case for each number, with its table; that of 12 is long.
+fn numbers() -> Vec<Case> {
+    let key = command::padded(&[1; 17], RECORD);
+    let from_tray = || command::open_tray(0, 1, 0, &[0; 16]);
+    let far = positions::image(3, (1 << 36) - 1);
+    vec![
+        Case::new("no command left: no call, and 0", &[], "end 0 0").table("call code cmd data out\nend 0 0\n"),
+        refused(1, "a crypt of three bytes", &[], vec![3, 0, 0]).table(ONE),
+        refused(2, "a first byte of 07", &[], vec![7, 0, 0, 0]).table(TWO),
+        refused(3, "a close of line 8", &[], vec![6, 8]).table(THREE),
+        refused(4, "an open with cipher 6", &[], command::open_own(0, 6, &[0; RECORD], &[0; 16])).table(FOUR),
+        refused(5, "an open on an open line", &[open(0)], open(0)).table(FIVE),
+        refused(6, "a park of an idle line", &[], vec![4, 0]).table(SIX),
+        refused(7, "ZUC with 17 key bytes", &[], command::open_own(0, 1, &key, &[0; 16])).table(SEVEN),
+        refused(8, "an image of zeros", &[], command::resume(0, &[0; IMAGE])).table(EIGHT),
+        refused(9, "a tray of 31 bytes", &[], from_tray()).tray(vec![0; 31]).table(NINE),
+        refused(10, "an empty tray", &[], from_tray()).table(TEN),
+        refused(11, "a byte asked for and none there", &[open(0)], vec![3, 0, 0, 1]).table(ELEVEN),
+        full::by_parks(),
+        refused(13, "two bytes and one left", &[command::resume(0, &far)], vec![3, 0, 0, 2]).table(THIRTEEN),
+    ]
+}
+
+/// Each command without its last byte, and its first byte alone.
+fn cut_short() -> Vec<Case> {
+    let cut = |command: Vec<u8>| {
+        let (first, kept) = (command[0], command.len() - 1);
+        let short = refused(1, format!("command 0{first} without its last byte"), &[], command[..kept].to_vec());
+        let alone = refused(1, format!("command 0{first} of one byte"), &[], vec![first]);
+        [short, alone]
+    };
+    each(0).into_iter().flat_map(cut).collect()
+}
+
+/// First bytes that are no command, before operands that would do for any.
+fn unknown() -> Vec<Case> {
+    let of = |first: u8| refused(2, format!("a command {first:02x}"), &[], [&[first], &[0; 100][..]].concat());
+    [0x00, 0x07, 0x08, 0x0A, 0x10, 0x81, 0xFF].map(of).into()
+}
+
+/// Line 7 is the last; each command for lines 8 and 255 is refused.
+fn lines() -> Vec<Case> {
+    let of =
+        |line: u8| move |command: Vec<u8>| refused(3, format!("command 0{} of line {line}", command[0]), &[], command);
+    let commands = [each(7)[1].clone(), each(7)[2].clone(), each(7)[5].clone()];
+    let last = Case::new("line 7 is opened, enciphers and is closed", &commands, "end 3 0");
+    let over = each(8).into_iter().map(of(8)).chain(each(255).into_iter().map(of(255)));
+    over.chain([last]).collect()
+}
+
+/// Both opens with cipher numbers that are none.
+fn ciphers() -> Vec<Case> {
+    let of = |cipher: u8| {
+        let own = command::open_own(0, cipher, &[0; RECORD], &[0; 16]);
+        let from_tray = command::open_tray(0, cipher, 0, &[0; 16]);
+        let tray = refused(4, format!("cipher {cipher} from the tray"), &[], from_tray).tray(vec![0; RECORD]);
+        [refused(4, format!("cipher {cipher}"), &[], own), tray]
+    };
+    [0, 7, 8, 128, 255].into_iter().flat_map(of).collect()
+}
+
+/// The commands that start a line on an open one, and the others on an idle one.
+fn open_or_idle() -> Vec<Case> {
+    let of = |command: Vec<u8>| match command[0] {
+        1 | 2 | 5 => refused(5, format!("command 0{} on an open line", command[0]), &[open(3)], command),
+        _ => refused(6, format!("command 0{} on an idle line", command[0]), &[open(2)], command),
+    };
+    each(3).into_iter().map(|command| of(command).tray(vec![0; RECORD])).collect()
+}
+
+/// The first and last byte beyond the key and the IV, for each cipher that leaves any, by both opens.
+fn stray() -> Vec<Case> {
+    let mut all = Vec::new();
+    for cipher in [1, 2, 3, 5] {
+        for place in [16, 31] {
+            let mut key = vec![9; 16];
+            key.resize(RECORD, 0);
+            key[place] = 1;
+            all.extend(stray_pair(cipher, format!("key byte {place}"), &key, &[0; 16]));
+        }
+    }
+    for place in [8, 15] {
+        let mut iv = [0; 16];
+        iv[place] = 1;
+        all.extend(stray_pair(2, format!("IV byte {place}"), &[0; RECORD], &iv));
+    }
+    all.push(Case::new("32 key bytes and 16 IV bytes are cipher 4's", &[open(0)], "end 1 0"));
+    all
+}
+
+fn stray_pair(cipher: u8, what: String, key: &[u8], iv: &[u8]) -> [Case; 2] {
+    let own = refused(7, format!("{}, {what}", name(cipher)), &[], command::open_own(0, cipher, key, iv));
+    let from_tray = command::open_tray(0, cipher, 1, iv);
+    let tray = refused(7, format!("{}, {what}, from the tray", name(cipher)), &[], from_tray);
+    [own, tray.tray([&[0; RECORD], key].concat())]
+}
+
+/// Trays of lengths that are refused, and key numbers that aren't in them.
+fn trays() -> Vec<Case> {
+    let open = |number: u8| command::open_tray(0, 4, number, &[0; 16]);
+    let bad = |length: usize| refused(9, format!("a tray of {length}"), &[], open(0)).tray(vec![0; length]);
+    let none = |(records, number): (usize, u8)| {
+        let what = format!("key {number} of a tray of {records} keys");
+        refused(10, what, &[], open(number)).tray(vec![0; records * RECORD])
+    };
+    let lengths = [1, 33, 63, 8_191, 8_193, 8_224, 16_384, 16_416];
+    lengths.into_iter().map(bad).chain([(0, 255), (1, 1), (2, 2), (255, 255)].map(none)).collect()
+}
+
+/// Counts above what is left of the data, at the start and after a crypt.
+fn data() -> Vec<Case> {
+    let short = |(length, count): (usize, u16)| {
+        let what = format!("{count} bytes asked for and {length} there");
+        refused(11, what, &[open(0)], command::crypt(0, count)).data(vec![0; length])
+    };
+    let after = refused(11, "4 bytes left of 9", &[open(0), command::crypt(0, 5)], command::crypt(0, 5));
+    [(15, 16), (255, 256), (16_384, 65_535)].map(short).into_iter().chain([after.data(vec![0; 9])]).collect()
+}

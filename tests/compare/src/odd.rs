@@ -1,0 +1,132 @@
+//! Lists that end in a refusal: after some accepted commands comes one with a chosen fault, often with others
+//! besides, so that the order of the refusals shows. What is added after it must not be run.
+
+use crate::builder::Builder;
+use crate::command::{self, CLOSE, OPEN_OWN, OPEN_TRAY, RESUME};
+use crate::plan::{self, Plan};
+use crate::program::{Files, READ};
+use crate::random::Random;
+use crate::{faulty, fill, images, plain};
+
+/// A list whose last command has the fault that `number` names.
+pub fn single(mut random: Random, number: u8) -> Files {
+    let kinds: Vec<u8> = (OPEN_TRAY..=CLOSE).filter(|&kind| plan::numbers(kind).contains(&number)).collect();
+    let kind = random.pick(&kinds);
+    let plan = Plan::new(&mut random, kind, &[number]);
+    list(random, plan)
+}
+
+/// A list whose last command has two faults, of all such pairs the one with this index, counted round.
+pub fn pair(mut random: Random, index: usize) -> Files {
+    let all = plan::pairs();
+    let (kind, one, other) = all[index % all.len()];
+    let plan = Plan::new(&mut random, kind, &[one, other]);
+    list(random, plan)
+}
+
+/// A list that ends with a bad image, of all faults of images the one with this index.
+pub fn image(mut random: Random, index: usize) -> Files {
+    let any = Plan::new(&mut random, RESUME, &[]);
+    list(random, Plan { faults: vec![8], image: index, ..any })
+}
+
+/// A list that ends with a stray byte, by this index in an open from the tray or not, in the IV or not, and at its
+/// place there.
+pub fn stray(mut random: Random, index: usize) -> Files {
+    let kind = [OPEN_TRAY, OPEN_OWN][index % 2];
+    let any = Plan::new(&mut random, kind, &[]);
+    list(random, Plan { faults: vec![7], in_iv: [true, false][index / 2 % 2], place: index / 4, ..any })
+}
+
+/// Some accepted commands, then the planned one, then perhaps some that aren't run.
+fn list(mut random: Random, plan: Plan) -> Files {
+    let tray = plan.tray(&mut random);
+    let length = if plan.has(12) { READ } else { random.size(400, 3_000) };
+    let data = random.bytes(length);
+    let mut b = Builder::new(random, tray, data);
+    if plan.has(12) {
+        fill::fill(&mut b, 0);
+    } else {
+        let count = b.random.size(0, 15);
+        plain::steps(&mut b, count);
+    }
+    let line = line(&mut b, &plan);
+    let command = faulty::command(&mut b, &plan, line);
+    b.put(&command);
+    if !plan.has(1) && b.random.chance(40) {
+        let count = b.random.size(1, 5);
+        plain::steps(&mut b, count);
+    }
+    b.files()
+}
+
+/// The line for the last command, made open or idle as the plan has it.
+fn line(b: &mut Builder, plan: &Plan) -> u8 {
+    if plan.has(3) {
+        let any = b.random.between(8, 255) as u8;
+        return b.random.pick(&[8, 9, 16, 255, any]);
+    }
+    let starts = [OPEN_TRAY, OPEN_OWN, RESUME].contains(&plan.kind);
+    let open = if starts { plan.has(5) } else { !plan.has(6) };
+    if open && plan.has(13) {
+        let line = idle_line(b);
+        let position = images::near_end(&mut b.random);
+        let image = images::at(&mut b.random, position);
+        b.put(&command::resume(line, &image));
+        line
+    } else if open {
+        open_line(b)
+    } else {
+        idle_line(b)
+    }
+}
+
+/// An open line; one is opened if there is none.
+fn open_line(b: &mut Builder) -> u8 {
+    let lines = b.open_lines();
+    if lines.is_empty() {
+        let line = b.random.between(0, 7) as u8;
+        plain::open_line(b, line);
+        return line;
+    }
+    b.random.pick(&lines)
+}
+
+/// An idle line; one is closed if there is none.
+fn idle_line(b: &mut Builder) -> u8 {
+    let lines = b.idle_lines();
+    if lines.is_empty() {
+        let line = b.random.between(0, 7) as u8;
+        b.put(&command::close(line));
+        return line;
+    }
+    b.random.pick(&lines)
+}
+
+#[cfg(test)]
+mod tests {
+    use super::*;
+    use crate::program;
+
+    fn last_code(files: &Files) -> u8 {
+        program::run(files).calls.last().map_or(0, |(_, answer)| answer.code)
+    }
+
+    #[test]
+    fn every_number_is_met() {
+        for number in 1..=13 {
+            let met = |k: &u64| last_code(&single(Random::new(2, *k), number)) == number;
+            assert!((0..12).filter(met).count() >= 6, "{number}");
+        }
+    }
+
+    #[test]
+    fn of_two_faults_the_first_is_met() {
+        for (index, (kind, one, other)) in plan::pairs().into_iter().enumerate() {
+            let code = |k| last_code(&pair(Random::new(2, k), index));
+            let first = if one == 1 && other == 2 { 2 } else { one };
+            let met = (0..10).filter(|&k| code(k) == first).count();
+            assert!(met > 2, "command {kind}, {one} and {other}: {met}");
+        }
+    }
+}

@@ -1,0 +1,187 @@
+//! Well-formed lists: all ciphers, keys from the tray and from commands, frames of odd lengths on several lines in
+//! turn, parks and resumes.
+
+use crate::builder::Builder;
+use crate::cipher::by_number;
+use crate::command::{self, padded, IMAGE, IV, RECORD};
+use crate::images;
+use crate::machine::END;
+use crate::program::{Files, READ};
+use crate::random::Random;
+use crate::{trays, zeros};
+
+/// A list of accepted commands.
+pub fn list(mut random: Random) -> Files {
+    let tray = trays::any(&mut random);
+    let length = data_length(&mut random);
+    let data = random.bytes(length);
+    let count = match random.between(0, 9) {
+        0 => random.size(0, 3),
+        1 => random.size(60, 250),
+        _ => random.size(4, 60),
+    };
+    let mut b = Builder::new(random, tray, data);
+    steps(&mut b, count);
+    b.files()
+}
+
+/// A list about positions: images from elsewhere, near 2^32 and 2^36, with frames up to the end and parks there.
+/// About half of these lists end with a frame past the end.
+pub fn far(mut random: Random) -> Files {
+    let tray = trays::any(&mut random);
+    let data = random.bytes(2_000);
+    let mut b = Builder::new(random, tray, data);
+    for line in 0..b.random.size(1, 8) as u8 {
+        let image = images::elsewhere(&mut b.random);
+        b.put(&command::resume(line, &image));
+        crypt(&mut b, line);
+    }
+    let count = b.random.size(2, 40);
+    steps(&mut b, count);
+    let past = |line: &u8| END - b.position(*line) < u64::from(u16::MAX);
+    let near: Vec<u8> = b.open_lines().into_iter().filter(past).collect();
+    if !near.is_empty() && b.random.chance(60) {
+        let line = b.random.pick(&near);
+        let least = END - b.position(line) + 1;
+        let any = b.random.between(least, u64::from(u16::MAX));
+        let count = b.random.pick(&[least, any]) as u16;
+        b.put(&command::crypt(line, count));
+    }
+    b.files()
+}
+
+/// How long the data file is: empty, short, long, as long as is read, or longer.
+pub fn data_length(random: &mut Random) -> usize {
+    match random.between(0, 9) {
+        0 => 0,
+        1 => random.size(1, 100),
+        2 | 3 => random.size(4_000, READ),
+        4 => READ,
+        5 => random.size(READ + 1, READ + 2_000),
+        _ => random.size(100, 4_000),
+    }
+}
+
+/// Adds up to `count` accepted commands; fewer if the file is full.
+pub fn steps(b: &mut Builder, count: usize) {
+    for _ in 0..count {
+        if b.room() < command::resume(0, &[0; IMAGE]).len() {
+            return;
+        }
+        step(b);
+    }
+}
+
+fn step(b: &mut Builder) {
+    let (idle, open) = (b.idle_lines(), b.open_lines());
+    let choice = b.random.between(0, 99);
+    if open.is_empty() || (!idle.is_empty() && choice < 30) {
+        let line = b.random.pick(&idle);
+        if choice < 10 {
+            resume(b, line);
+        } else {
+            open_line(b, line);
+        }
+        return;
+    }
+    let line = b.random.pick(&open);
+    match choice {
+        0..=85 => crypt(b, line),
+        86..=95 if b.out_left() >= IMAGE => b.put(&command::park(line)),
+        _ => b.put(&command::close(line)),
+    };
+}
+
+/// Opens an idle line with any cipher, from the tray where it has a key for it, or with a key of the command's own.
+pub fn open_line(b: &mut Builder, line: u8) -> bool {
+    let cipher = b.random.between(1, 5) as u8;
+    let keys = trays::keys(b.tray(), cipher);
+    if !keys.is_empty() && b.random.chance(60) {
+        let number = b.random.pick(&keys);
+        let iv = iv(&mut b.random, cipher);
+        return b.put(&command::open_tray(line, cipher, number, &iv));
+    }
+    let (key, iv) = if cipher == 1 && b.random.chance(10) {
+        let (key, iv) = zeros::key_and_iv(&mut b.random);
+        (padded(&key, RECORD), iv)
+    } else {
+        (key(&mut b.random, cipher), iv(&mut b.random, cipher))
+    };
+    b.put(&command::open_own(line, cipher, &key, &iv))
+}
+
+/// Resumes on an idle line: one of the list's own images, perhaps not for the first time, or one from elsewhere.
+pub fn resume(b: &mut Builder, line: u8) -> bool {
+    let own = !b.images.is_empty() && b.random.chance(75);
+    let image = if own { b.random.pick(&b.images) } else { images::elsewhere(&mut b.random) };
+    b.put(&command::resume(line, &image))
+}
+
+/// Enciphers a frame on an open line, as long as data, out and the line's position allow.
+pub fn crypt(b: &mut Builder, line: u8) -> bool {
+    let to_end = usize::try_from(END - b.position(line)).unwrap_or(usize::MAX);
+    let most = b.data_left().min(b.out_left()).min(to_end);
+    let count = frame(&mut b.random, most);
+    b.put(&command::crypt(line, count as u16))
+}
+
+/// The length of a frame, at most `most` and at most 65,535: mostly short and odd, at times 0 or all there is.
+pub fn frame(random: &mut Random, most: usize) -> usize {
+    let wanted = match random.between(0, 19) {
+        0 | 1 => 0,
+        2..=9 => random.size(1, 20),
+        10..=15 => random.size(1, 170),
+        16 | 17 => random.size(1, 1_000),
+        18 => random.pick(&[4, 8, 16, 32, 160]),
+        _ => most,
+    };
+    wanted.min(most).min(usize::from(u16::MAX))
+}
+
+/// A key of the cipher's length with zeros after it, as command 02 has it; at times all zero.
+pub fn key(random: &mut Random, cipher: u8) -> Vec<u8> {
+    let length = by_number(cipher).map_or(RECORD, |c| c.shape().key);
+    operand(random, length, RECORD)
+}
+
+/// An IV of the cipher's length with zeros after it; at times all zero.
+pub fn iv(random: &mut Random, cipher: u8) -> Vec<u8> {
+    let length = by_number(cipher).map_or(IV, |c| c.shape().iv);
+    operand(random, length, IV)
+}
+
+fn operand(random: &mut Random, length: usize, whole: usize) -> Vec<u8> {
+    let bytes = match random.between(0, 19) {
+        0 => vec![0; length],
+        1 => vec![0xFF; length],
+        _ => random.bytes(length),
+    };
+    padded(&bytes, whole)
+}
+
+#[cfg(test)]
+mod tests {
+    use super::*;
+    use crate::program;
+
+    #[test]
+    fn well_formed_lists_are_accepted_throughout() {
+        for number in 0..60 {
+            let files = list(Random::new(5, number));
+            assert!(program::run(&files).calls.iter().all(|(_, answer)| answer.code == 0));
+        }
+    }
+
+    #[test]
+    fn lists_about_positions_are_accepted_but_for_a_last_13() {
+        let mut last_codes = Vec::new();
+        for number in 0..60 {
+            let files = far(Random::new(5, number));
+            let mut codes: Vec<u8> = program::run(&files).calls.iter().map(|(_, answer)| answer.code).collect();
+            last_codes.extend(codes.pop());
+            assert!(codes.iter().all(|&code| code == 0));
+        }
+        assert!(last_codes.iter().all(|&code| code == 0 || code == 13));
+        assert!(last_codes.contains(&0) && last_codes.contains(&13));
+    }
+}

@@ -1,0 +1,82 @@
+//! What is to be wrong with the last command of a list that ends in a refusal: the kind of command, and the numbers
+//! whose conditions are to hold.
+
+use crate::command::{CLOSE, CRYPT, OPEN_OWN, OPEN_TRAY, PARK, RESUME};
+use crate::random::Random;
+use crate::{images, trays};
+
+/// The numbers that a command of each kind can be refused with, in their order.
+pub fn numbers(kind: u8) -> &'static [u8] {
+    match kind {
+        OPEN_TRAY => &[1, 2, 3, 4, 5, 9, 10, 7],
+        OPEN_OWN => &[1, 2, 3, 4, 5, 7],
+        CRYPT => &[1, 2, 3, 6, 13, 11, 12],
+        PARK => &[1, 2, 3, 6, 12],
+        RESUME => &[1, 2, 3, 5, 8],
+        _ => &[1, 2, 3, 6],
+    }
+}
+
+/// Every kind of command with every two numbers that it can be refused with.
+pub fn pairs() -> Vec<(u8, u8, u8)> {
+    let mut all = Vec::new();
+    for kind in OPEN_TRAY..=CLOSE {
+        for (i, &one) in numbers(kind).iter().enumerate() {
+            all.extend(numbers(kind)[i + 1..].iter().map(|&other| (kind, one, other)));
+        }
+    }
+    all
+}
+
+/// The kind of the last command, and the numbers whose conditions are to hold of it.
+pub struct Plan {
+    pub kind: u8,
+    pub faults: Vec<u8>,
+    /// For number 8: the image's fault.
+    pub image: usize,
+    /// For number 7: whether the stray byte is in the IV, and which place it has.
+    pub in_iv: bool,
+    pub place: usize,
+}
+
+impl Plan {
+    /// A command with one or two faults, at times with one more.
+    pub fn new(random: &mut Random, kind: u8, faults: &[u8]) -> Plan {
+        let mut faults = faults.to_vec();
+        if random.chance(20) {
+            faults.push(random.pick(numbers(kind)));
+        }
+        let image = random.size(0, 3 * images::FAULTS - 1);
+        Plan { kind, faults, image, in_iv: random.chance(40), place: random.size(0, 2) }
+    }
+
+    pub fn has(&self, number: u8) -> bool {
+        self.faults.contains(&number)
+    }
+
+    /// Whether there is to be a stray byte in the IV; with number 10 there is no key that could have one.
+    pub fn stray_iv(&self) -> bool {
+        self.has(7) && (self.in_iv || self.has(10))
+    }
+
+    /// Whether there is to be a stray byte after the key.
+    pub fn stray_key(&self) -> bool {
+        self.has(7) && !self.stray_iv()
+    }
+
+    /// A tray in which the faults can be had.
+    pub fn tray(&self, random: &mut Random) -> Vec<u8> {
+        if self.has(9) {
+            trays::bad_length(random)
+        } else if self.has(12) {
+            trays::useful(random)
+        } else if self.has(7) && self.kind == OPEN_TRAY {
+            trays::with_stray(random, self.place)
+        } else if self.has(10) {
+            let count = random.pick(&[0, 1, 2, 16, 254, 255]);
+            trays::records(random, count)
+        } else {
+            trays::any(random)
+        }
+    }
+}

@@ -1,0 +1,70 @@
+//! What is compared: a subject runs named cases and lists of a seed and holds what it gets against the second
+//! implementation.
+//! `cardrun` as a process is one; anything with a function for one call can be another.
+
+use crate::machine::Answer;
+use crate::named::Case;
+
+/// What lists came to by the second implementation: named cases, lists of the seed, calls of both, the bytes that
+/// their crypts took, and how often each code was met.
+#[derive(Clone, Debug, Default, PartialEq, Eq)]
+pub struct Tally {
+    pub named: u64,
+    pub lists: u64,
+    pub calls: u64,
+    pub bytes: u64,
+    pub codes: [u64; 14],
+}
+
+impl Tally {
+    /// Counts a call.
+    pub fn count(&mut self, answer: &Answer) {
+        self.calls += 1;
+        self.bytes += answer.used_data as u64;
+        self.codes[usize::from(answer.code)] += 1;
+    }
+
+    pub fn add(&mut self, other: &Tally) {
+        self.named += other.named;
+        self.lists += other.lists;
+        self.calls += other.calls;
+        self.bytes += other.bytes;
+        for (sum, count) in self.codes.iter_mut().zip(other.codes) {
+            *sum += count;
+        }
+    }
+}
+
+/// Something that is to do what the second implementation does.
+pub trait Subject {
+    /// What it is called in the report.
+    fn name(&self) -> String;
+
+    /// Runs a named case. An error says in a few lines where the subject first differs.
+    fn hold_case(&mut self, case: &Case) -> Result<Tally, String>;
+
+    /// Runs list `number` of `seed`. An error says in a few lines where the subject first differs.
+    fn hold(&mut self, seed: u64, number: u64) -> Result<Tally, String>;
+}
+
+/// Where two strings of bytes first differ, in words; nothing if they don't.
+pub fn first_difference(wanted: &[u8], got: &[u8]) -> Option<String> {
+    let same = wanted.iter().zip(got).take_while(|(a, b)| a == b).count();
+    match (wanted.get(same), got.get(same)) {
+        (None, None) => None,
+        (Some(a), Some(b)) => Some(format!("byte {same} is {b:02x}, expected {a:02x}")),
+        _ => Some(format!("length is {}, expected {}, alike so far", got.len(), wanted.len())),
+    }
+}
+
+#[cfg(test)]
+mod tests {
+    use super::*;
+
+    #[test]
+    fn differences_are_found() {
+        assert_eq!(first_difference(b"abc", b"abc"), None);
+        assert_eq!(first_difference(b"abc", b"axc").unwrap(), "byte 1 is 78, expected 62");
+        assert_eq!(first_difference(b"abc", b"ab").unwrap(), "length is 2, expected 3, alike so far");
+    }
+}
