@@ -1,0 +1,2 @@
+mod Cards
+mod Results

@@ -1,0 +1,59 @@
+/* The cipher card for an exchange: eight lines, enciphered with the stream ciphers of ISO/IEC 18033-4.
+ *
+ * A card is an array of PIPESHEAR_CARD words that the caller keeps and does not look into. All zero is a fresh card, with all lines idle.
+ * A card can be copied, kept in a file and taken up again on the same kind of machine; what is not a card is found out (code 255).
+ *
+ * Link with target/staticlib/libpipeshear.a, which `rt staticlib pipeshear` makes for Linux on x86-64. */
+#ifndef PIPESHEAR_H
+#define PIPESHEAR_H
+
+#include <stddef.h>
+#include <stdint.h>
+
+#ifdef __cplusplus
+extern "C" {
+#endif
+
+/* The words of a card. */
+#define PIPESHEAR_CARD 192
+
+/* The bytes of a parked line's image. */
+#define PIPESHEAR_IMAGE 89
+
+/* One call: the first command in `command` is run on `card`.
+ *
+ *   card      the card, PIPESHEAR_CARD words; an accepted call changes it
+ *   command   the command, and whatever comes after it; not changed
+ *   tray      the key tray, 32 bytes a key; not changed; read by command 01 only
+ *   data      the bytes to encipher or decipher, from the first on; not changed
+ *   out       where crypt and park write, from the first byte on; the bytes behind those that are written stay
+ *   counts    three counts: bytes used of command, bytes used of data, bytes written to out
+ *
+ * Each pointer is followed by how many words, bytes or counts it leads to. The caller owns all of them, before and after; none may overlap another that the call
+ * changes, and none may be null, also where its length is 0 (give any address).
+ *
+ * Returns 0 for an accepted command. Any other code is a refusal: card and out stand as they did, and the three counts are 0.
+ *
+ *     1  command empty or cut short          8  an image that is none
+ *     2  first byte not 01 to 06             9  tray length not a multiple of 32, or over 8192
+ *     3  line over 7                        10  key number not in the tray
+ *     4  cipher not 1 to 5                  11  data shorter than the count
+ *     5  open or resume on an open line     12  out shorter than the count, or than an image for a park
+ *     6  crypt, park or close on an idle    13  position and count over 2^36
+ *     7  a key or IV byte beyond the       255  damaged card, card_words not PIPESHEAR_CARD, or places not 3
+ *        cipher's length is not 0               (then counts stand as they did)
+ *
+ * The call keeps nothing and reads nothing but what it is given, so threads may call it at the same time on cards of their own. Two calls on one card must not run at
+ * the same time. */
+uint8_t pipeshear_call(uint32_t *card, size_t card_words,
+                       const uint8_t *command, size_t command_bytes,
+                       const uint8_t *tray, size_t tray_bytes,
+                       const uint8_t *data, size_t data_bytes,
+                       uint8_t *out, size_t out_bytes,
+                       size_t *counts, size_t places);
+
+#ifdef __cplusplus
+}
+#endif
+
+#endif
