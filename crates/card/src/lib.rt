@@ -16,14 +16,14 @@ use checks::LIMIT;
 use checks::all_ok;
 use checks::all_zero;
 use checks::open_ok;
+use ciphers::iv_of;
+use ciphers::key_of;
+use ciphers::number_of;
+use ciphers::unit_of;
 use command::Cipher;
 use command::Command;
 use command::Decoded;
 use command::decode;
-use dispatch::iv_of;
-use dispatch::key_of;
-use dispatch::number_of;
-use dispatch::unit_of;
 use line::Line;
 
 pub struct Card {

@@ -1,3 +1,4 @@
 pub mod Tests
 pub mod States
 pub mod Sound
+pub mod Numbers

@@ -1,3 +1,3 @@
 pub mod Along
 pub mod Literals
-pub mod Numbers
+pub mod Asks

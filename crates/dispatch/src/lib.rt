@@ -15,58 +15,6 @@ ghost use Rattle.ciphers.specs.Table.{cipherAt};
 ghost use Rattle.command.specs.Decode.{numberOf};
 use command::Cipher;
 
-// The unit of a cipher, in bytes.
-pub fn unit_of(c: u8) -> usize
-    ensures { λ r. ⌜ r ≡ cipherAt c .gen .unit ⌝ }
-{
-    match c {
-        1 => 4,
-        2 => 16,
-        3 => 4,
-        4 => 4,
-        _ => 8,
-    }
-}
-
-// The bytes of a cipher's key.
-pub fn key_of(c: Cipher) -> usize
-    ensures { λ r. ⌜ r ≡ cipherAt (numberOf c) .key ⌝ }
-{
-    match c {
-        Cipher::Zuc => 16,
-        Cipher::Rabbit => 16,
-        Cipher::Snow128 => 16,
-        Cipher::Snow256 => 32,
-        Cipher::Kcipher2 => 16,
-    }
-}
-
-// The bytes of a cipher's IV.
-pub fn iv_of(c: Cipher) -> usize
-    ensures { λ r. ⌜ r ≡ cipherAt (numberOf c) .iv ⌝ }
-{
-    match c {
-        Cipher::Zuc => 16,
-        Cipher::Rabbit => 8,
-        Cipher::Snow128 => 16,
-        Cipher::Snow256 => 16,
-        Cipher::Kcipher2 => 16,
-    }
-}
-
-// The number of a cipher.
-pub fn number_of(c: Cipher) -> u8
-    ensures { λ r. ⌜ r ≡ numberOf c ⌝ }
-{
-    match c {
-        Cipher::Zuc => 1,
-        Cipher::Rabbit => 2,
-        Cipher::Snow128 => 3,
-        Cipher::Snow256 => 4,
-        Cipher::Kcipher2 => 5,
-    }
-}
-
 // S(0) of key and IV.
 pub fn open(c: Cipher, key: &[u8], iv: &[u8]) -> [u32; 20]
     requires { ⌜ length (now key) ≡ cipherAt (numberOf c) .key ⌝ }

@@ -5,7 +5,8 @@ use Rattle.dispatch.proofs.crypt.Statement.{statement}
 use Rattle.dispatch.proofs.crypt.Tie as tie
 use denote.Ref.{now}
 use Rattle.ciphers.specs.Table.{zuc, rabbit, snow128, snow256, kcipher2}
-use Rattle.dispatch.proofs.Numbers.{is-zuc, is-rabbit, is-snow128, is-snow256, is-kcipher2, asks, gives}
+use Rattle.ciphers.proofs.Numbers.{is-zuc, is-rabbit, is-snow128, is-snow256, is-kcipher2}
+use Rattle.dispatch.proofs.Asks.{asks, gives}
 
 crypt-requires : tie.Need-crypt-requires
 unfolding zuc

@@ -1,10 +1,10 @@
--- `dispatch::unit_of` meets its contract: each arm is a row of the table of ciphers.
+-- `ciphers::unit_of` meets its contract: each arm is a row of the table of ciphers.
 -- Assumes nothing.
-use Rattle.dispatch.proofs.unit_of.Statement.{statement}
-use Rattle.dispatch.proofs.unit_of.Tie as tie
+use Rattle.ciphers.proofs.unit_of.Statement.{statement}
+use Rattle.ciphers.proofs.unit_of.Tie as tie
 use mathlib.Core.Path.{ap, sym}
 use Rattle.ciphers.specs.Table.{Cipher, zuc, rabbit, snow128, snow256, kcipher2}
-use Rattle.dispatch.proofs.Numbers.{is-zuc, is-rabbit, is-snow128, is-snow256, is-kcipher2}
+use Rattle.ciphers.proofs.Numbers.{is-zuc, is-rabbit, is-snow128, is-snow256, is-kcipher2}
 
 returns : tie.Need-returns
 unfolding zuc
