@@ -30,7 +30,7 @@ extern "C" {
  *   counts    three counts: bytes used of command, bytes used of data, bytes written to out
  *
  * Each pointer is followed by how many words, bytes or counts it leads to. The caller owns all of them, before and after; none may overlap another that the call
- * changes, and none may be null, also where its length is 0 (give any address).
+ * changes, and none may be null, also where its length is 0 (give any address). So a crypt from a buffer to itself is not allowed: give out a place of its own.
  *
  * Returns 0 for an accepted command. Any other code is a refusal: card and out stand as they did, and the three counts are 0.
  *
@@ -41,10 +41,12 @@ extern "C" {
  *     5  open or resume on an open line     12  out shorter than the count, or than an image for a park
  *     6  crypt, park or close on an idle    13  position and count over 2^36
  *     7  a key or IV byte beyond the       255  damaged card, card_words not PIPESHEAR_CARD, or places not 3
- *        cipher's length is not 0               (then counts stand as they did)
+ *        cipher's length is not 0
+ *
+ * Where places is not 3 the counts, too, stand as they did.
  *
  * The call keeps nothing and reads nothing but what it is given, so threads may call it at the same time on cards of their own. Two calls on one card must not run at
- * the same time. */
+ * the same time. A call takes some 15 KB of stack. */
 uint8_t pipeshear_call(uint32_t *card, size_t card_words,
                        const uint8_t *command, size_t command_bytes,
                        const uint8_t *tray, size_t tray_bytes,

@@ -3,11 +3,12 @@
 
 use crate::command::{length, CRYPT, IMAGE, PARK};
 use crate::lists;
-use crate::machine::{Answer, Machine, Seen};
+use crate::machine::{Answer, Machine};
 use crate::named::Case;
 use crate::program::{self, Call};
 use crate::random::Random;
 use crate::subject::{first_difference, Subject, Tally};
+use crate::words;
 
 /// A call with its own buffers; `out` as it is before the call.
 #[derive(Clone, Debug, PartialEq, Eq)]
@@ -87,11 +88,11 @@ pub trait Card {
     /// Makes the card a fresh one.
     fn refresh(&mut self);
 
-    /// One call on the card that the call before left.
-    fn call(&mut self, command: &[u8], tray: &[u8], data: &[u8], out: &mut [u8]) -> Answer;
+    /// One call on the card that the call before left. An error says what it does beside answering.
+    fn call(&mut self, command: &[u8], tray: &[u8], data: &[u8], out: &mut [u8]) -> Result<Answer, String>;
 
-    /// What is seen of the eight lines, or nothing if the card doesn't show them.
-    fn lines(&self) -> Option<Vec<Option<Seen>>> {
+    /// The words that the card is kept as, or nothing if it doesn't show them.
+    fn words(&self) -> Option<Vec<u32>> {
         None
     }
 }
@@ -105,12 +106,12 @@ impl Card for Machine {
         *self = Machine::fresh();
     }
 
-    fn call(&mut self, command: &[u8], tray: &[u8], data: &[u8], out: &mut [u8]) -> Answer {
-        Machine::call(self, command, tray, data, out)
+    fn call(&mut self, command: &[u8], tray: &[u8], data: &[u8], out: &mut [u8]) -> Result<Answer, String> {
+        Ok(Machine::call(self, command, tray, data, out))
     }
 
-    fn lines(&self) -> Option<Vec<Option<Seen>>> {
-        Some((0..8).map(|line| self.seen(line)).collect())
+    fn words(&self) -> Option<Vec<u32>> {
+        Some(words::of(self))
     }
 }
 
@@ -126,13 +127,13 @@ impl<C: Card> Subject for CallByCall<C> {
 
     fn hold_case(&mut self, case: &Case) -> Result<Tally, String> {
         let run = program::run(&case.list.files);
-        let calls: Vec<OwnCall> = run.calls.iter().map(|(call, _)| lent(call)).collect();
-        let tally = self.hold_calls(&calls).map_err(|told| format!("named case \"{}\", {told}", case.name()))?;
+        let tally = self.hold_calls(run.calls.iter().map(|(call, _)| lent(call)));
+        let tally = tally.map_err(|told| format!("named case \"{}\", {told}", case.name()))?;
         Ok(Tally { named: 1, ..tally })
     }
 
     fn hold(&mut self, seed: u64, number: u64) -> Result<Tally, String> {
-        let tally = self.hold_calls(&list(seed, number));
+        let tally = self.hold_calls(list(seed, number));
         let tally = tally.map_err(|told| format!("call list {number} of seed {seed}, {told}"))?;
         Ok(Tally { lists: 1, ..tally })
     }
@@ -140,11 +141,11 @@ impl<C: Card> Subject for CallByCall<C> {
 
 impl<C: Card> CallByCall<C> {
     /// Makes calls on a fresh card.
-    fn hold_calls(&mut self, calls: &[OwnCall]) -> Result<Tally, String> {
+    fn hold_calls(&mut self, calls: impl IntoIterator<Item = OwnCall>) -> Result<Tally, String> {
         let (mut machine, mut tally) = (Machine::fresh(), Tally::default());
         self.card.refresh();
-        for (i, call) in calls.iter().enumerate() {
-            let answer = hold_call(&mut machine, &mut self.card, call);
+        for (i, call) in calls.into_iter().enumerate() {
+            let answer = hold_call(&mut machine, &mut self.card, &call);
             tally.count(&answer.map_err(|told| format!("call {}: {told}", i + 1))?);
         }
         Ok(tally)
@@ -157,23 +158,21 @@ fn lent(call: &Call) -> OwnCall {
     OwnCall { command, tray, data: call.data.to_vec(), out: vec![0; call.out] }
 }
 
-/// Makes one call on both and compares the answers, out as a whole and the lines; gives the machine's answer.
+/// Makes one call on both and compares the answers, out as a whole and the card's words; gives the machine's answer.
 fn hold_call(machine: &mut Machine, card: &mut dyn Card, call: &OwnCall) -> Result<Answer, String> {
     let (mut wanted_out, mut got_out) = (call.out.clone(), call.out.clone());
     let wanted = machine.call(&call.command, &call.tray, &call.data, &mut wanted_out);
-    let got = card.call(&call.command, &call.tray, &call.data, &mut got_out);
+    let got = card.call(&call.command, &call.tray, &call.data, &mut got_out)?;
     if wanted != got {
         return Err(format!("the answer is {got:?}, expected {wanted:?}"));
     }
     if let Some(told) = first_difference(&wanted_out, &got_out) {
         return Err(format!("out: {told}"));
     }
-    for (line, seen) in (0..8).zip(card.lines().into_iter().flatten()) {
-        if seen != machine.seen(line) {
-            return Err(format!("line {line} is {seen:?}, expected {:?}", machine.seen(line)));
-        }
+    match card.words().and_then(|got| words::first_difference(&words::of(machine), &got)) {
+        Some(told) => Err(told),
+        None => Ok(wanted),
     }
-    Ok(wanted)
 }
 
 #[cfg(test)]
@@ -181,10 +180,12 @@ mod tests {
     use super::*;
     use crate::named;
 
-    /// A card that is the machine but for what `fault` does, after a call, to the answer and to out.
+    /// A card that is the machine but for what `fault` does, after a call, to the answer and to out, and for some bits
+    /// of its last word.
     struct Faulty {
         machine: Machine,
         fault: fn(command: &[u8], &mut Answer, &mut [u8]),
+        bits: u32,
     }
 
     impl Card for Faulty {
@@ -196,10 +197,16 @@ mod tests {
             self.machine = Machine::fresh();
         }
 
-        fn call(&mut self, command: &[u8], tray: &[u8], data: &[u8], out: &mut [u8]) -> Answer {
+        fn call(&mut self, command: &[u8], tray: &[u8], data: &[u8], out: &mut [u8]) -> Result<Answer, String> {
             let mut answer = self.machine.call(command, tray, data, out);
             (self.fault)(command, &mut answer, out);
-            answer
+            Ok(answer)
+        }
+
+        fn words(&self) -> Option<Vec<u32>> {
+            let mut words = words::of(&self.machine);
+            words[words::CARD - 1] ^= self.bits;
+            Some(words)
         }
     }
 
@@ -216,8 +223,7 @@ mod tests {
     }
 
     fn told(fault: fn(&[u8], &mut Answer, &mut [u8])) -> String {
-        let machine = Machine::fresh();
-        held(Faulty { machine, fault }).unwrap_err()
+        held(Faulty { machine: Machine::fresh(), fault, bits: 0 }).unwrap_err()
     }
 
     #[test]
@@ -234,6 +240,13 @@ mod tests {
             }
         });
         assert!(told.contains("out: byte 0"), "{told}");
+    }
+
+    #[test]
+    fn a_word_left_behind_is_found() {
+        let card = Faulty { machine: Machine::fresh(), fault: |_, _, _| (), bits: 1 };
+        let told = held(card).unwrap_err();
+        assert!(told.contains("word 23 of line 7 is 00000001, expected 00000000"), "{told}");
     }
 
     #[test]

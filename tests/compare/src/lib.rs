@@ -34,5 +34,6 @@ pub mod report;
 pub mod snow2;
 pub mod subject;
 pub mod trays;
+pub mod words;
 pub mod zeros;
 pub mod zuc;

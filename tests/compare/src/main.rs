@@ -6,8 +6,8 @@
 
 use compare::args::{self, Options};
 use compare::cardrun::Cardrun;
-use compare::report::{self, Progress};
-use compare::subject::{Subject, Tally};
+use compare::report;
+use compare::subject::{self, Subject, Which};
 use compare::{annex, cases, named};
 use std::process::ExitCode;
 
@@ -36,32 +36,12 @@ fn run(options: &Options) -> Result<(), String> {
     let program = options.cardrun.clone().unwrap_or_else(args::usual_place);
     let mut subject = Cardrun::new(&program, options.keep)?;
     println!("seed {}, {}", options.seed, subject.name());
-    let tally = hold(&mut subject, options)?;
+    let which = Which { seed: options.seed, lists: options.lists, only: options.only };
+    let tally = subject::hold_all(&mut subject, &which, "compare")?;
     print!("{}", report::summary(&tally));
     let missing = report::missing(&tally);
     if options.only.is_none() && !missing.is_empty() {
         return Err(format!("never met: {missing:?}"));
     }
     Ok(())
-}
-
-/// Runs the named cases, if all lists are asked for, and the lists, up to the first that differs.
-fn hold(subject: &mut dyn Subject, options: &Options) -> Result<Tally, String> {
-    let numbers = match options.only {
-        Some(number) => number..number + 1,
-        None => 0..options.lists,
-    };
-    let progress = Progress::new(numbers.end - numbers.start);
-    let mut sum = Tally::default();
-    if options.only.is_none() {
-        for case in named::all() {
-            sum.add(&subject.hold_case(&case)?);
-        }
-    }
-    for number in numbers {
-        let again = format!("to run it again: compare --seed {} --only {number}", options.seed);
-        sum.add(&subject.hold(options.seed, number).map_err(|told| format!("{told}\n{again}"))?);
-        progress.at(sum.lists);
-    }
-    Ok(sum)
 }

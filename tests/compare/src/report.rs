@@ -27,7 +27,7 @@ impl Progress {
     }
 }
 
-/// The summary: named cases, lists, calls, bytes enciphered, and how often each number was met.
+/// The summary: named cases, lists, calls, bytes enciphered, and how often each number was met; 255 only if it was.
 pub fn summary(tally: &Tally) -> String {
     let mut text = format!("named cases {}\nlists {}\ncalls {}\n", tally.named, tally.lists, tally.calls);
     text.push_str(&format!("bytes enciphered {}\n", tally.bytes));
@@ -35,10 +35,13 @@ pub fn summary(tally: &Tally) -> String {
     for (number, count) in tally.codes.iter().enumerate() {
         text.push_str(&format!("{number} {count}\n"));
     }
+    if tally.damaged > 0 {
+        text.push_str(&format!("255 {}\n", tally.damaged));
+    }
     text
 }
 
-/// The numbers that were never met.
+/// The numbers of 0 to 13 that were never met.
 pub fn missing(tally: &Tally) -> Vec<usize> {
     (0..tally.codes.len()).filter(|&number| tally.codes[number] == 0).collect()
 }

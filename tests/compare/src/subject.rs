@@ -3,10 +3,11 @@
 //! `cardrun` as a process is one; anything with a function for one call can be another.
 
 use crate::machine::Answer;
-use crate::named::Case;
+use crate::named::{self, Case};
+use crate::report::Progress;
 
 /// What lists came to by the second implementation: named cases, lists of the seed, calls of both, the bytes that
-/// their crypts took, and how often each code was met.
+/// their crypts took, and how often each code was met, 255 for a damaged card apart from the others.
 #[derive(Clone, Debug, Default, PartialEq, Eq)]
 pub struct Tally {
     pub named: u64,
@@ -14,6 +15,7 @@ pub struct Tally {
     pub calls: u64,
     pub bytes: u64,
     pub codes: [u64; 14],
+    pub damaged: u64,
 }
 
 impl Tally {
@@ -21,7 +23,8 @@ impl Tally {
     pub fn count(&mut self, answer: &Answer) {
         self.calls += 1;
         self.bytes += answer.used_data as u64;
-        self.codes[usize::from(answer.code)] += 1;
+        let count = if answer.code == 255 { &mut self.damaged } else { &mut self.codes[usize::from(answer.code)] };
+        *count += 1;
     }
 
     pub fn add(&mut self, other: &Tally) {
@@ -29,6 +32,7 @@ impl Tally {
         self.lists += other.lists;
         self.calls += other.calls;
         self.bytes += other.bytes;
+        self.damaged += other.damaged;
         for (sum, count) in self.codes.iter_mut().zip(other.codes) {
             *sum += count;
         }
@@ -47,11 +51,38 @@ pub trait Subject {
     fn hold(&mut self, seed: u64, number: u64) -> Result<Tally, String>;
 }
 
+/// Which lists a subject is to run: the named cases and the first `lists` of the seed, or list `only` and nothing else.
+pub struct Which {
+    pub seed: u64,
+    pub lists: u64,
+    pub only: Option<u64>,
+}
+
+/// Runs lists up to the first that differs; `program` is the command that runs such a list again.
+pub fn hold_all(subject: &mut dyn Subject, which: &Which, program: &str) -> Result<Tally, String> {
+    let (seed, mut sum) = (which.seed, Tally::default());
+    let numbers = which.only.map_or(0..which.lists, |number| number..number + 1);
+    let progress = Progress::new(numbers.end - numbers.start);
+    if which.only.is_none() {
+        for case in named::all() {
+            sum.add(&subject.hold_case(&case)?);
+        }
+    }
+    for number in numbers {
+        let again = format!("to run it again: {program} --seed {seed} --only {number}");
+        sum.add(&subject.hold(seed, number).map_err(|told| format!("{told}\n{again}"))?);
+        progress.at(sum.lists);
+    }
+    Ok(sum)
+}
+
 /// Where two strings of bytes first differ, in words; nothing if they don't.
 pub fn first_difference(wanted: &[u8], got: &[u8]) -> Option<String> {
+    if wanted == got {
+        return None;
+    }
     let same = wanted.iter().zip(got).take_while(|(a, b)| a == b).count();
     match (wanted.get(same), got.get(same)) {
-        (None, None) => None,
         (Some(a), Some(b)) => Some(format!("byte {same} is {b:02x}, expected {a:02x}")),
         _ => Some(format!("length is {}, expected {}, alike so far", got.len(), wanted.len())),
     }

@@ -1,0 +1,143 @@
+//! A card of its own: its words, and the call on them.
+
+use crate::{raw_call, Refusal};
+use std::fmt;
+
+/// A card of eight lines. A new one has all lines idle.
+///
+/// The words of a card say all that its lines will encipher: keep them as keys are kept. They are not shown by `Debug`
+/// and not wiped on drop. A clone goes on with the same keystreams as the card it was made from, so only one of the two
+/// should encipher.
+#[derive(Clone, PartialEq, Eq)]
+pub struct Card {
+    words: [u32; Card::WORDS],
+}
+
+/// What an accepted command used and wrote.
+#[derive(Clone, Copy, Debug, PartialEq, Eq)]
+pub struct Counts {
+    /// Bytes used of the command: its whole length, without what comes after it.
+    pub used_command: usize,
+    /// Bytes used of the data.
+    pub used_data: usize,
+    /// Bytes written to out, from the first on.
+    pub written: usize,
+}
+
+impl Card {
+    /// The words of a card.
+    pub const WORDS: usize = 192;
+
+    /// A fresh card, with all lines idle.
+    pub const fn new() -> Card {
+        Card { words: [0; Card::WORDS] }
+    }
+
+    /// The card that was kept as these words. Whether they are one, the next call tells: if they are not, it is refused
+    /// with code 255.
+    ///
+    /// ```
+    /// use pipeshear::{command, Card};
+    ///
+    /// let kept = *Card::new().words();
+    /// assert_eq!(Card::from_words(kept), Card::new());
+    /// let refusal = Card::from_words([1; Card::WORDS]).call(&command::close(0), &[], &[], &mut []).unwrap_err();
+    /// assert_eq!(refusal.code(), 255);
+    /// ```
+    pub const fn from_words(words: [u32; Card::WORDS]) -> Card {
+        Card { words }
+    }
+
+    /// The words of the card, to be kept.
+    pub const fn words(&self) -> &[u32; Card::WORDS] {
+        &self.words
+    }
+
+    /// Runs the first command in `command`; bytes behind it are not looked at.
+    ///
+    /// The key tray has 32 bytes for each key and is read by an open from the tray alone. A crypt takes its bytes from
+    /// the start of `data`. Crypt and park write to the start of `out`; the bytes behind those that are written stay as
+    /// they are. A refused command changes neither the card nor `out`.
+    ///
+    /// ```
+    /// use pipeshear::{command, Card};
+    ///
+    /// let refusal = Card::new().call(&command::park(4), &[], &[], &mut [0; 89]).unwrap_err();
+    /// assert_eq!(refusal.to_string(), "crypt, park or close on an idle line (code 6)");
+    /// ```
+    pub fn call(&mut self, command: &[u8], tray: &[u8], data: &[u8], out: &mut [u8]) -> Result<Counts, Refusal> {
+        let mut counts = [0; 3];
+        let code = raw_call(&mut self.words, command, tray, data, out, &mut counts);
+        let [used_command, used_data, written] = counts;
+        match Refusal::new(code) {
+            None => Ok(Counts { used_command, used_data, written }),
+            Some(refusal) => Err(refusal),
+        }
+    }
+}
+
+impl Default for Card {
+    fn default() -> Card {
+        Card::new()
+    }
+}
+
+/// Without the words.
+impl fmt::Debug for Card {
+    fn fmt(&self, f: &mut fmt::Formatter<'_>) -> fmt::Result {
+        f.debug_struct("Card").finish_non_exhaustive()
+    }
+}
+
+#[cfg(test)]
+mod tests {
+    use super::*;
+    use crate::{command, Cipher};
+
+    fn opened() -> Card {
+        let mut card = Card::new();
+        card.call(&command::open_own(4, Cipher::Zuc, &[0; 32], &[0; 16]), &[], &[], &mut []).unwrap();
+        card
+    }
+
+    #[test]
+    fn a_fresh_card_is_idle() {
+        let mut card = Card::default();
+        assert_eq!(card.words(), &[0; Card::WORDS]);
+        for line in 0..8 {
+            let refusal = card.call(&command::close(line), &[], &[], &mut []).unwrap_err();
+            assert_eq!(refusal.code(), 6);
+        }
+        assert_eq!(card, Card::new());
+    }
+
+    #[test]
+    fn a_card_that_was_kept_goes_on() {
+        let mut card = opened();
+        let mut kept = Card::from_words(*card.words());
+        let (mut one, mut other) = ([0; 33], [0; 33]);
+        let counts = card.call(&command::crypt(4, 33), &[], &[9; 33], &mut one);
+        assert_eq!(counts, kept.call(&command::crypt(4, 33), &[], &[9; 33], &mut other));
+        assert_eq!((one, card), (other, kept));
+    }
+
+    #[test]
+    fn a_damaged_card_is_255_and_nothing_is_changed() {
+        let words = *opened().words();
+        for place in (0..Card::WORDS).filter(|&place| words[place] == 0) {
+            let mut damaged = words;
+            damaged[place] = 17;
+            let (mut card, mut out) = (Card::from_words(damaged), [7; 5]);
+            match card.call(&command::crypt(4, 5), &[], &[1; 5], &mut out) {
+                Err(refusal) => assert_eq!((refusal.code(), card.words(), out), (255, &damaged, [7; 5])),
+                // Line 4 may be at byte 17 as well.
+                Ok(_) => assert_eq!(place, 4 * 24 + 3),
+            }
+        }
+    }
+
+    #[test]
+    fn debug_shows_no_words() {
+        assert_eq!(format!("{:?}", opened()), "Card { .. }");
+    }
+}

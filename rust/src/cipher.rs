@@ -1,0 +1,24 @@
+//! The ciphers that a line can be opened with.
+
+/// A cipher, with the lengths of its key and IV. In a command, shorter keys and IVs stand first, with zeros after them.
+#[derive(Clone, Copy, Debug, PartialEq, Eq, Hash)]
+#[non_exhaustive]
+pub enum Cipher {
+    /// ZUC: key 16, IV 16.
+    Zuc = 1,
+    /// Rabbit: key 16, IV 8.
+    Rabbit = 2,
+    /// SNOW 2.0 with a key of 16 bytes: IV 16.
+    Snow2Key16 = 3,
+    /// SNOW 2.0 with a key of 32 bytes: IV 16.
+    Snow2Key32 = 4,
+    /// KCipher-2: key 16, IV 16.
+    KCipher2 = 5,
+}
+
+impl Cipher {
+    /// The number that commands and images have for the cipher.
+    pub const fn number(self) -> u8 {
+        self as u8
+    }
+}

@@ -1,0 +1,87 @@
+//! Commands as bytes. Any operand may be given: whether the card takes the command, its answer tells.
+//!
+//! Lines are 0 to 7. A command's bytes may be followed by others, as by the next command.
+
+use crate::{Cipher, IMAGE};
+
+/// The bytes of a key in a command and in the key tray.
+pub const KEY: usize = 32;
+
+/// The bytes of an IV in a command.
+pub const IV: usize = 16;
+
+/// Opens an idle line with key `key_number` of the tray, which is the tray's bytes from 32 times that number on.
+pub fn open_tray(line: u8, cipher: Cipher, key_number: u8, iv: &[u8; IV]) -> [u8; 4 + IV] {
+    let mut bytes = [0; 4 + IV];
+    bytes[..4].copy_from_slice(&[0x01, line, cipher.number(), key_number]);
+    bytes[4..].copy_from_slice(iv);
+    bytes
+}
+
+/// Opens an idle line with a key of the command's own.
+pub fn open_own(line: u8, cipher: Cipher, key: &[u8; KEY], iv: &[u8; IV]) -> [u8; 3 + KEY + IV] {
+    let mut bytes = [0; 3 + KEY + IV];
+    bytes[..3].copy_from_slice(&[0x02, line, cipher.number()]);
+    bytes[3..3 + KEY].copy_from_slice(key);
+    bytes[3 + KEY..].copy_from_slice(iv);
+    bytes
+}
+
+/// Enciphers or deciphers the first `count` bytes of data, which go to the start of out.
+pub fn crypt(line: u8, count: u16) -> [u8; 4] {
+    let [high, low] = count.to_be_bytes();
+    [0x03, line, high, low]
+}
+
+/// Writes an open line's image to the start of out and makes the line idle.
+pub fn park(line: u8) -> [u8; 2] {
+    [0x04, line]
+}
+
+/// Opens an idle line from an image, at the byte where the parked line stopped.
+pub fn resume(line: u8, image: &[u8; IMAGE]) -> [u8; 2 + IMAGE] {
+    let mut bytes = [0; 2 + IMAGE];
+    bytes[..2].copy_from_slice(&[0x05, line]);
+    bytes[2..].copy_from_slice(image);
+    bytes
+}
+
+/// Makes an open line idle.
+pub fn close(line: u8) -> [u8; 2] {
+    [0x06, line]
+}
+
+#[cfg(test)]
+mod tests {
+    use super::*;
+    use crate::{Card, Counts};
+
+    /// The counts of a command that must be accepted, with a tray of one key and nine bytes of data.
+    fn counts(card: &mut Card, command: &[u8], out: &mut [u8]) -> (usize, usize, usize) {
+        let Counts { used_command, used_data, written } = card.call(command, &[0; KEY], &[0; 9], out).unwrap();
+        (used_command, used_data, written)
+    }
+
+    #[test]
+    fn each_command_is_taken() {
+        let (mut card, mut out) = (Card::new(), [0; IMAGE]);
+        assert_eq!(counts(&mut card, &open_tray(7, Cipher::KCipher2, 0, &[9; IV]), &mut out), (20, 0, 0));
+        assert_eq!(counts(&mut card, &open_own(1, Cipher::Snow2Key32, &[8; KEY], &[9; IV]), &mut out), (51, 0, 0));
+        assert_eq!(counts(&mut card, &crypt(7, 9), &mut out), (4, 9, 9));
+        assert_eq!(counts(&mut card, &park(7), &mut out), (2, 0, IMAGE));
+        assert_eq!(counts(&mut card, &resume(0, &out), &mut []), (91, 0, 0));
+        assert_eq!(counts(&mut card, &close(0), &mut out), (2, 0, 0));
+        assert_eq!(counts(&mut card, &close(1), &mut out), (2, 0, 0));
+        assert_eq!(card, Card::new());
+    }
+
+    #[test]
+    fn operands_stand_in_their_places() {
+        let (key, iv) = ([0xAA; KEY], [0xBB; IV]);
+        assert_eq!(open_tray(6, Cipher::Zuc, 255, &iv)[..5], [1, 6, 1, 255, 0xBB]);
+        assert_eq!(open_own(6, Cipher::Rabbit, &key, &iv)[..4], [2, 6, 2, 0xAA]);
+        assert_eq!(open_own(6, Cipher::Rabbit, &key, &iv)[34..36], [0xAA, 0xBB]);
+        assert_eq!(crypt(6, 0x1234), [3, 6, 0x12, 0x34]);
+        assert_eq!(resume(6, &[0xCC; IMAGE])[..3], [5, 6, 0xCC]);
+    }
+}

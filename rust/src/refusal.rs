@@ -1,0 +1,78 @@
+//! Why a command was refused: the card's number, and what it says.
+
+use std::error::Error;
+use std::fmt;
+use std::num::NonZeroU8;
+
+/// A refused command. The card and the buffers are as they were before it.
+#[derive(Clone, Copy, Debug, PartialEq, Eq, Hash)]
+pub struct Refusal(NonZeroU8);
+
+impl Refusal {
+    /// The refusal of a code; nothing of 0, which is no refusal.
+    pub const fn new(code: u8) -> Option<Refusal> {
+        match NonZeroU8::new(code) {
+            Some(code) => Some(Refusal(code)),
+            None => None,
+        }
+    }
+
+    /// The code: 1 to 13, or 255 for a damaged card.
+    pub const fn code(self) -> u8 {
+        self.0.get()
+    }
+}
+
+/// What the code says, as `line over 7 (code 3)`.
+impl fmt::Display for Refusal {
+    fn fmt(&self, f: &mut fmt::Formatter<'_>) -> fmt::Result {
+        write!(f, "{} (code {})", text(self.code()), self.code())
+    }
+}
+
+impl Error for Refusal {}
+
+fn text(code: u8) -> &'static str {
+    match code {
+        1 => "command empty or cut short",
+        2 => "first byte not 01 to 06",
+        3 => "line over 7",
+        4 => "cipher not 1 to 5",
+        5 => "open or resume on an open line",
+        6 => "crypt, park or close on an idle line",
+        7 => "a key or IV byte beyond the cipher's length is not 0",
+        8 => "an image whose cipher, position, state or padding is wrong",
+        9 => "tray length not a multiple of 32, or over 8192",
+        10 => "key number not in the tray",
+        11 => "data shorter than the count",
+        12 => "out shorter than the count, or than an image for a park",
+        13 => "position and count over 2^36",
+        255 => "damaged card",
+        _ => "a code that the card does not give",
+    }
+}
+
+#[cfg(test)]
+mod tests {
+    use super::*;
+    use std::collections::HashSet;
+
+    #[test]
+    fn every_code_has_a_text_of_its_own() {
+        let codes: Vec<u8> = (1..=13).chain([255]).collect();
+        let texts: HashSet<&str> = codes.iter().map(|&code| text(code)).collect();
+        assert_eq!(texts.len(), codes.len());
+        assert!(!texts.contains(text(14)));
+    }
+
+    #[test]
+    fn texts_have_the_code() {
+        for code in 1..=255 {
+            let refusal = Refusal::new(code).unwrap();
+            assert_eq!(refusal.code(), code);
+            assert!(refusal.to_string().ends_with(&format!(" (code {code})")));
+        }
+        assert_eq!(Refusal::new(3).unwrap().to_string(), "line over 7 (code 3)");
+        assert_eq!(Refusal::new(0), None);
+    }
+}

@@ -1,0 +1,127 @@
+//! A card with a line for each cipher, one that is a byte before the end and two that are idle, and calls that meet
+//! every code on it. It can be turned, so that what stood on line 0 stands on another.
+
+use compare::calls::OwnCall;
+use compare::cipher::by_number;
+use compare::command::{self, padded, IMAGE, IV, RECORD};
+use compare::images::image;
+use compare::machine::{Machine, END};
+
+/// What stands on the lines of a card that is not turned; on the first five are the ciphers, 1 to 5.
+pub const ZUC: u8 = 0;
+pub const RABBIT: u8 = 1;
+pub const KCIPHER2: u8 = 4;
+pub const LATE: u8 = 5;
+pub const IDLE: [u8; 2] = [6, 7];
+
+/// The cipher of the line that is late.
+pub const LATE_CIPHER: u8 = 3;
+
+/// The line on which something stands after so many turns.
+pub fn line(what: u8, turn: u8) -> u8 {
+    (what + turn) % 8
+}
+
+/// The card.
+pub fn machine(turn: u8) -> Machine {
+    let mut machine = Machine::fresh();
+    let mut accept = |command: &[u8], data: &[u8]| {
+        let code = machine.call(command, &[], data, &mut vec![0; data.len()]).code;
+        assert_eq!(code, 0, "the card is made with accepted commands");
+    };
+    for cipher in 1..=5 {
+        accept(&open(line(cipher - 1, turn), cipher), &[]);
+        accept(&command::crypt(line(cipher - 1, turn), 5 * u16::from(cipher) + 1), &[0; 26]);
+    }
+    accept(&command::resume(line(LATE, turn), &image(LATE_CIPHER, END - 1, &[7; 72])), &[]);
+    machine
+}
+
+/// Command 02 with a key and an IV of the cipher's lengths.
+fn open(line: u8, cipher: u8) -> Vec<u8> {
+    let (key, iv) = by_number(cipher).map_or((RECORD, IV), |c| (c.shape().key, c.shape().iv));
+    command::open_own(line, cipher, &padded(&vec![cipher; key], RECORD), &padded(&vec![0xA5; iv], IV))
+}
+
+/// A crypt of no bytes, which changes nothing.
+pub fn empty_crypt(turn: u8) -> Vec<u8> {
+    command::crypt(line(KCIPHER2, turn), 0)
+}
+
+/// Calls with the codes that they meet on the card: all that are accepted, and some for each refusal.
+pub fn calls(turn: u8) -> Vec<(u8, OwnCall)> {
+    [accepted(turn), unread(turn), unfit(turn), unlent(turn)].concat()
+}
+
+/// A call with a tray of one key and ten bytes of data, and as many bytes in out as an image has and one more.
+fn call(command: Vec<u8>) -> OwnCall {
+    OwnCall { command, tray: vec![0; RECORD], data: vec![0x11; 10], out: vec![0x22; IMAGE + 1] }
+}
+
+fn accepted(turn: u8) -> Vec<(u8, OwnCall)> {
+    let idle = line(IDLE[0], turn);
+    let commands = [
+        command::open_tray(idle, 5, 0, &[1; IV]),
+        open(idle, 4),
+        command::crypt(line(ZUC, turn), 9),
+        command::crypt(line(LATE, turn), 1),
+        empty_crypt(turn),
+        command::park(line(RABBIT, turn)),
+        command::resume(idle, &image(3, 1, &[9; 72])),
+        command::close(line(KCIPHER2, turn)),
+    ];
+    commands.map(|command| (0, call(command))).into()
+}
+
+/// Refusals that the command alone decides.
+fn unread(turn: u8) -> Vec<(u8, OwnCall)> {
+    let idle = line(IDLE[1], turn);
+    let calls = [
+        (1, vec![]),
+        (1, vec![3, idle, 0]),
+        (1, open(idle, 1)[..50].to_vec()),
+        (2, vec![0; 91]),
+        (2, vec![7]),
+        (3, command::close(8)),
+        (3, command::crypt(255, 1)),
+        (4, open(idle, 0)),
+        (4, open(idle, 6)),
+    ];
+    calls.map(|(code, command)| (code, call(command))).into()
+}
+
+/// Refusals that the lines, the key, the IV or the image decide.
+fn unfit(turn: u8) -> Vec<(u8, OwnCall)> {
+    let (busy, idle) = (line(ZUC, turn), line(IDLE[1], turn));
+    let calls = [
+        (5, open(busy, 1)),
+        (5, command::resume(busy, &image(3, 1, &[9; 72]))),
+        (6, command::crypt(idle, 0)),
+        (6, command::park(idle)),
+        (6, command::close(idle)),
+        (7, command::open_own(idle, 1, &[1; RECORD], &[0; IV])),
+        (7, command::open_tray(idle, 2, 0, &[1; IV])),
+        (8, command::resume(idle, &[0; IMAGE])),
+        (8, command::resume(idle, &image(3, END + 1, &[9; 72]))),
+        (10, command::open_tray(idle, 1, 1, &[0; IV])),
+        (11, command::crypt(busy, 11)),
+        (13, command::crypt(line(LATE, turn), 2)),
+    ];
+    calls.map(|(code, command)| (code, call(command))).into()
+}
+
+/// Refusals that the lengths of tray, data and out decide.
+fn unlent(turn: u8) -> Vec<(u8, OwnCall)> {
+    let (busy, idle) = (line(RABBIT, turn), line(IDLE[0], turn));
+    let from_tray = || call(command::open_tray(idle, 1, 0, &[0; IV]));
+    let crypt = || call(command::crypt(busy, 10));
+    vec![
+        (9, OwnCall { tray: vec![0; RECORD + 1], ..from_tray() }),
+        (9, OwnCall { tray: vec![0; 8_224], ..from_tray() }),
+        (10, OwnCall { tray: vec![], ..from_tray() }),
+        (11, OwnCall { data: vec![], ..crypt() }),
+        (12, OwnCall { out: vec![0x22; 9], ..crypt() }),
+        (12, OwnCall { out: vec![], ..crypt() }),
+        (12, OwnCall { out: vec![0x22; IMAGE - 1], ..call(command::park(busy)) }),
+    ]
+}

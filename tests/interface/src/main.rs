@@ -1,0 +1,72 @@
+//! Holds the card's C interface, linked as a program in C or Rust links it, against the second implementation: cards
+//! that are none, card buffers and counts of other lengths, the named cases, and call lists from a seed. Ends with 0 if
+//! all agree and every number was met, else with 1.
+
+#![forbid(unsafe_code)]
+
+mod args;
+mod base;
+mod change;
+mod damages;
+mod edges;
+mod held;
+mod lengths;
+mod lent;
+mod linked;
+mod room;
+mod struck;
+
+use args::Options;
+use compare::report;
+use compare::subject::{self, Tally, Which};
+use linked::Interface;
+use std::process::ExitCode;
+
+fn main() -> ExitCode {
+    let outcome = args::read(std::env::args().skip(1)).map_err(|told| format!("{told}\n{}", args::USAGE));
+    match outcome.and_then(|options| run(&options)) {
+        Ok(()) => ExitCode::SUCCESS,
+        Err(told) => {
+            eprintln!("{told}");
+            ExitCode::FAILURE
+        }
+    }
+}
+
+fn run(options: &Options) -> Result<(), String> {
+    if options.help {
+        println!("{}", args::USAGE);
+        return Ok(());
+    }
+    let mut tally = Tally::default();
+    if options.only.is_none() {
+        tally.add(&named()?);
+    }
+    println!("seed {}, libpipeshear.a", options.seed);
+    let which = Which { seed: options.seed, lists: options.lists, only: options.only };
+    tally.add(&subject::hold_all(&mut Interface::default(), &which, "tests/linked")?);
+    print!("{}", report::summary(&tally));
+    let missing = missing(&tally);
+    if options.only.is_none() && !missing.is_empty() {
+        return Err(format!("never met: {missing:?}"));
+    }
+    Ok(())
+}
+
+/// The named cards, each with calls that would meet every other code.
+fn named() -> Result<Tally, String> {
+    let (damages, edges, lengths) = (damages::hold()?, edges::hold()?, lengths::hold()?);
+    println!("damaged cards: {} agree", damages.named);
+    println!("cards that are just well formed: {} agree", edges.named);
+    println!("other lengths of card and counts: {} agree", lengths.named);
+    let mut sum = damages;
+    sum.add(&edges);
+    sum.add(&lengths);
+    Ok(sum)
+}
+
+/// The numbers that were never met, 255 among them.
+fn missing(tally: &Tally) -> Vec<usize> {
+    let damaged = (tally.damaged == 0).then_some(255);
+    report::missing(tally).into_iter().chain(damaged).collect()
+}
