@@ -2,7 +2,7 @@
 -- two streams that meet at a byte are joined there.
 -- Assumes nothing.
 use mathlib.Core.Path.{_≡_, refl, ap, ap₂, sym, _∙_, subst}
-use mathlib.Core.List.{List, [], _∷_, _++_, append-assoc}
+use mathlib.Core.List.{List, [], _∷_, _++_, append-assoc, append-nil}
 use Prim.Native.Nat.{ℕ, _+_}
 use native.Mathlib.Omega.{arith}
 use lib.ListN.{length}
@@ -36,13 +36,9 @@ card-last : (c : Seen) (xs : List Made) (x : Made) → cardAfter c (xs ++ (x ∷
 card-last c [] x = refl
 card-last c (y ∷ xs) x = card-last (y .card) xs x
 
-append-none : (xs : List Made) → xs ++ [] ≡ xs
-append-none [] = refl
-append-none (x ∷ xs) = ap (_∷_ x) (append-none xs)
-
 pub on-hold : (xs : List Made) → OneStream xs → (i : ℕ) (quiet before after : List Made) → xs ≡ before ++ (quiet ++ after) → Apart i quiet → OnHold i before quiet
 on-hold xs s i [] before after e a =
-    record { line = ap (λ (l : List Made). lineOn (cardAfter freshCard l) i) (append-none before); log = ap (logOf i) (append-none before) }
+    record { line = ap (λ (l : List Made). lineOn (cardAfter freshCard l) i) (append-nil before); log = ap (logOf i) (append-nil before) }
 on-hold xs s i (x ∷ quiet) before after e a =
     let k = s .others {before = before} {x = x} (record { after = quiet ++ after; is = e }) i (a .0) in
     let h = on-hold xs s i quiet (before ++ (x ∷ [])) after (e ∙ sym (append-assoc before (x ∷ []) (quiet ++ after))) (a .1) in
