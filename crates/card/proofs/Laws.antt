@@ -30,17 +30,11 @@ use Rattle.machine.proofs.Lines.{shown-based, shown-idle}
 use Rattle.machine.proofs.Simulation.{shown-all, map-set}
 use Rattle.machine.proofs.OneStream.{opened-shown}
 use Rattle.card.specs.declared.Card.{Card}
+use Rattle.card.specs.declared.Acted.{Acted}
 use Rattle.card.specs.declared.Answer.{Answer}
-use Rattle.card.specs.Answer.{answerOf, outOf, publicOf, Given}
+use Rattle.card.specs.Answer.{answerOf, outOf, publicOf, noLine, lineOn, Holds, answerOn, Given}
 
 -- ---- the lines of a card
-
--- where a card has no line
-abbrev pub noLine : Line
-noLine = record { mode = 0; cipher = 0; n = 0; words = [] }
-
-abbrev pub lineOn : Card → ℕ → Line
-lineOn c i = getD (c .lines) i noLine
 
 based-at : (ls : List Line) (i : ℕ) → i < length ls → getD (map based ls) i idle ≡ based (getD ls i noLine)
 based-at [] i h = absurd (not-suc-le-zero h)
@@ -57,15 +51,21 @@ line-ok (suc n) ls i h e = go (decLt i n) (λ q. line-ok n ls i q (both-left (al
         let z : i ≡ n = omega arith in
         ap (λ (k : ℕ). lineOk (getD ls k idleLine)) z ∙ both-right (allOk n ls) (lineOk (getD ls n idleLine)) e
 
--- a line that says it is open is well formed
-pub open-ok-at : (c : Card) (i : ℕ) → length (c .lines) ≡ 8 → i < 8 → allOk 8 (c .lines) ≡ true → lineOn c i .mode ≡ 1 → openOk (lineOn c i) ≡ true
-unfolding lineOk
-open-ok-at c i e h k m =
-    let l = lineOn c i in
-    let a : lineOk l ≡ true = ap lineOk (sym (by-default (c .lines) i noLine (omega (arith, e)))) ∙ line-ok 8 (c .lines) i h k in
-    sym (ap (λ (x : ℕ). pick (eqb x 0) (idleOk l) (both (eqb x 1) (openOk l))) m) ∙ a
+-- a line of a card that is as a call leaves it
+pub line-ok-at : (c : Card) (i : ℕ) → length (c .lines) ≡ 8 → i < 8 → allOk 8 (c .lines) ≡ true → lineOk (lineOn c i) ≡ true
+line-ok-at c i e h k = ap lineOk (sym (by-default (c .lines) i noLine (omega (arith, e)))) ∙ line-ok 8 (c .lines) i h k
 
-pub view-at : (c : Card) (i : ℕ) → viewAt (publicOf c) i ≡ record { mode = lineOn c i .mode; cipher = lineOn c i .cipher; pos = lineOn c i .n }
+-- a line that says it is open is well formed
+pub open-ok-of : (l : Line) → lineOk l ≡ true → l .mode ≡ 1 → openOk l ≡ true
+unfolding lineOk
+open-ok-of l a m = sym (ap (λ (x : ℕ). pick (eqb x 0) (idleOk l) (both (eqb x 1) (openOk l))) m) ∙ a
+
+set-same : (ls : List Line) (i : ℕ) → set ls i (getD ls i noLine) ≡ ls
+set-same [] i = refl
+set-same (l ∷ ls) zero = refl
+set-same (l ∷ ls) (suc i) = ap (_∷_ l) (set-same ls i)
+
+view-at : (c : Card) (i : ℕ) → viewAt (publicOf c) i ≡ record { mode = lineOn c i .mode; cipher = lineOn c i .cipher; pos = lineOn c i .n }
 unfolding publicOf viewOf based
 view-at c i = go (c .lines) i
   where
@@ -75,17 +75,22 @@ view-at c i = go (c .lines) i
     go (l ∷ ls) zero = refl
     go (l ∷ ls) (suc i) = go ls i
 
-pub shut-is : (c : Card) (i : ℕ) (b : Bool) → eqb (lineOn c i .mode) 1 ≡ b → not (isOpen (publicOf c) i) ≡ not b
-shut-is c i b h = ap not (ap (λ (v : View). eqb (v .mode) 1) (view-at c i) ∙ h)
+-- what the rows ask of the line that a command names
+module _ (c : Card) (i : ℕ) (l : Line) (h : Holds c i l) where
+  view-is : viewAt (publicOf c) i ≡ record { mode = l .mode; cipher = l .cipher; pos = l .n }
+  view-is = view-at c i ∙ ap (λ (x : Line). record { mode = x .mode; cipher = x .cipher; pos = x .n }) (h .line-is)
 
-pub busy-is : (c : Card) (i : ℕ) (b : Bool) → eqb (lineOn c i .mode) 0 ≡ b → not (isIdle (publicOf c) i) ≡ not b
-busy-is c i b h = ap not (ap (λ (v : View). eqb (v .mode) 0) (view-at c i) ∙ h)
+  pub shut-is : (b : Bool) → eqb (l .mode) 1 ≡ b → not (isOpen (publicOf c) i) ≡ not b
+  shut-is b e = ap not (ap (λ (v : View). eqb (v .mode) 1) view-is ∙ e)
 
-pub over-yes : (c : Card) (i n : ℕ) → limit < lineOn c i .n + n → ltb limit (viewAt (publicOf c) i .pos + n) ≡ true
-over-yes c i n h = ap (λ (v : View). ltb limit (v .pos + n)) (view-at c i) ∙ lt-ltb limit (lineOn c i .n + n) h
+  pub busy-is : (b : Bool) → eqb (l .mode) 0 ≡ b → not (isIdle (publicOf c) i) ≡ not b
+  busy-is b e = ap not (ap (λ (v : View). eqb (v .mode) 0) view-is ∙ e)
 
-pub over-no : (c : Card) (i n : ℕ) → lineOn c i .n + n ≤ limit → ltb limit (viewAt (publicOf c) i .pos + n) ≡ false
-over-no c i n h = ap (λ (v : View). ltb limit (v .pos + n)) (view-at c i) ∙ le-ltb limit (lineOn c i .n + n) h
+  pub over-yes : (n : ℕ) → limit < l .n + n → ltb limit (viewAt (publicOf c) i .pos + n) ≡ true
+  over-yes n e = ap (λ (v : View). ltb limit (v .pos + n)) view-is ∙ lt-ltb limit (l .n + n) e
+
+  pub over-no : (n : ℕ) → l .n + n ≤ limit → ltb limit (viewAt (publicOf c) i .pos + n) ≡ false
+  over-no n e = ap (λ (v : View). ltb limit (v .pos + n)) view-is ∙ le-ltb limit (l .n + n) e
 
 -- ---- what the rows of an open ask
 
@@ -164,6 +169,10 @@ place-within c n u e = subst (λ (x : ℕ). n % x < cipherAt c .gen .unit) (sym 
 
 -- ---- what an effect gives
 
+-- what a command gives of its line
+abbrev pub acted : Line → ℕ → ℕ → ℕ → ℕ → Acted
+acted l k c d w = record { line = l; code = k; «used_command» = c; «used_data» = d; written = w }
+
 -- the answer with these lines
 abbrev pub answered : List Line → ℕ → ℕ → ℕ → ℕ → Answer
 answered ls k c d w = record { card = record { lines = ls }; code = k; «used_command» = c; «used_data» = d; written = w }
@@ -186,10 +195,6 @@ module _ (card : Card) (text out : List ℕ) where
   set-seen : (i : ℕ) (m : MLine) (l : Line) → l ≡ shown m → set (card .lines) i l ≡ map shown (set (map based (card .lines)) i m)
   set-seen i m l e = ap₂ (λ (x : List Line) (y : Line). set x i y) (sym (shown-all (card .lines))) e ∙ sym (map-set shown (map based (card .lines)) i m)
 
-  pub given-put : (i size : ℕ) (m : MLine) (l : Line) → l ≡ shown m → (r : Answer) → r ≡ answered (set (card .lines) i l) 0 size 0 0 → Given card text out (put i m size) r out
-  unfolding answerOf outOf
-  given-put i size m l e r h = record { answer-is = h ∙ ap (λ (x : List Line). answered x 0 size 0 0) (set-seen i m l e); out-is = refl }
-
   -- an open by its key
   pub given-key : (i size c : ℕ) (iv : List ℕ) (r : Answer) {key key' : List ℕ} → key ≡ key' →
       Given card text out (refuseIf (spareUsed c key iv) 7 (put i (opened c (take (cipherAt c .key) key) (take (cipherAt c .iv) iv)) size)) r out →
@@ -198,30 +203,44 @@ module _ (card : Card) (text out : List ℕ) where
       subst
       (λ (k : List ℕ). Given card text out (refuseIf (spareUsed c k iv) 7 (put i (opened c (take (cipherAt c .key) k) (take (cipherAt c .iv) iv)) size)) r out) e g
 
-  module _ (i : ℕ) (up : i < length (card .lines)) where
-    pub given-crypt : (n size : ℕ) → n ≤ length text → (l : Line) → l ≡ shown (moved (based (lineOn card i)) n) →
-        (o : List ℕ) → o ≡ enciphered (based (lineOn card i)) (take n text) ++ drop n out →
-        Given card text out (crypt i n size) (answered (set (card .lines) i l) 0 size n n) o
+  module _ (i : ℕ) (l : Line) (here : Holds card i l) where
+    -- a refusal, as a command gives it of its line
+    pub given-stop : (k : ℕ) (r : Acted) → r ≡ acted l k 0 0 0 → Given card text out (refuse k) (answerOn card i r) out
+    given-stop k r h =
+        refusal k (answerOn card i r)
+        (ap (answerOn card i) h
+        ∙ ap (λ (x : List Line). answered x k 0 0 0) (ap (set (card .lines) i) (sym (here .line-is)) ∙ set-same (card .lines) i))
+
+    pub given-put : (size : ℕ) (m : MLine) (next : Line) → next ≡ shown m → (r : Acted) → r ≡ acted next 0 size 0 0 → Given card text out (put i m size) (answerOn card i r) out
+    unfolding answerOf outOf
+    given-put size m next e r h =
+        record { answer-is = ap (answerOn card i) h ∙ ap (λ (x : List Line). answered x 0 size 0 0) (set-seen i m next e); out-is = refl }
+
+    base-is : getD (map based (card .lines)) i idle ≡ based l
+    base-is = based-at (card .lines) i (here .within) ∙ ap based (here .line-is)
+
+    pub given-crypt : (n size : ℕ) → n ≤ length text → (next : Line) → next ≡ shown (moved (based l) n) →
+        (o : List ℕ) → o ≡ enciphered (based l) (take n text) ++ drop n out → (r : Acted) → r ≡ acted next 0 size n n →
+        Given card text out (crypt i n size) (answerOn card i r) o
     unfolding answerOf outOf enciphered
-    given-crypt n size q l e o p =
-        let b = based-at (card .lines) i up in
+    given-crypt n size q next e o p r h =
         let m = getD (map based (card .lines)) i idle in
-        let w : enciphered m (take n text) ≡ enciphered (based (lineOn card i)) (take n text) = ap (λ (x : MLine). enciphered x (take n text)) b in
+        let w : enciphered m (take n text) ≡ enciphered (based l) (take n text) = ap (λ (x : MLine). enciphered x (take n text)) base-is in
         let lw : length (enciphered m (take n text)) ≡ n = xorFrom-length (byteOf m) (m .pos) (take n text) ∙ length-take-le n text q in
-        let sl = set-seen i (moved m n) l (e ∙ sym (ap (λ (x : MLine). shown (moved x n)) b)) in
+        let sl = set-seen i (moved m n) next (e ∙ sym (ap (λ (x : MLine). shown (moved x n)) base-is)) in
         record {
-          answer-is = ap₂ (λ (x : List Line) (k : ℕ). answered x 0 size n k) sl (sym lw);
+          answer-is = ap (answerOn card i) h ∙ ap₂ (λ (x : List Line) (k : ℕ). answered x 0 size n k) sl (sym lw);
           out-is = p ∙ ap₂ (λ (x : List ℕ) (k : ℕ). x ++ drop k out) (sym w) (sym lw);
         }
 
-    pub given-park : (size : ℕ) → length (imageOf (lineOn card i)) ≡ imageLength → (l : Line) → l ≡ idleLine → (o : List ℕ) → o ≡ imageOf (lineOn card i) ++ drop imageLength out →
-        Given card text out (park i size) (answered (set (card .lines) i l) 0 size 0 imageLength) o
+    pub given-park : (size : ℕ) → length (imageOf l) ≡ imageLength → (next : Line) → next ≡ idleLine → (o : List ℕ) → o ≡ imageOf l ++ drop imageLength out →
+        (r : Acted) → r ≡ acted next 0 size 0 imageLength → Given card text out (park i size) (answerOn card i r) o
     unfolding answerOf outOf
-    given-park size t l e o p =
+    given-park size t next e o p r h =
         let m = getD (map based (card .lines)) i idle in
-        let w : imageOf (shown m) ≡ imageOf (lineOn card i) = ap imageOf (ap shown (based-at (card .lines) i up) ∙ shown-based (lineOn card i)) in
+        let w : imageOf (shown m) ≡ imageOf l = ap imageOf (ap shown base-is ∙ shown-based l) in
         let n : length (imageOf (shown m)) ≡ imageLength = ap length w ∙ t in
         record {
-          answer-is = ap₂ (λ (x : List Line) (k : ℕ). answered x 0 size 0 k) (set-seen i idle l (e ∙ sym shown-idle)) (sym n);
+          answer-is = ap (answerOn card i) h ∙ ap₂ (λ (x : List Line) (k : ℕ). answered x 0 size 0 k) (set-seen i idle next (e ∙ sym shown-idle)) (sym n);
           out-is = p ∙ ap₂ (λ (x : List ℕ) (k : ℕ). x ++ drop k out) (sym w) (sym n);
         }

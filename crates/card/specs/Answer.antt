@@ -1,14 +1,17 @@
 -- What the entry promises: the answer and the buffer, whole, are those of the card's step.
 -- Assumes nothing.
-use Prim.Native.Nat.{ℕ}
 use mathlib.Core.Path.{_≡_}
-use mathlib.Core.List.{List, _++_}
-use lib.ListN.{length, drop}
+use mathlib.Core.List.{List, [], _++_}
+use Prim.Native.Nat.{ℕ, _<_}
+use lib.ListN.{length, drop, getD, set}
 use Rattle.command.specs.declared.Command.{Command}
 use Rattle.command.specs.declared.Decoded.{Decoded}
 use Rattle.command.specs.declared.Decoded.the-variants.{Run, Refused}
+use Rattle.command.specs.Decode.{lineOf}
+use Rattle.line.specs.declared.Line.{Line}
 use Rattle.machine.specs.Machine.{Call, Effect, Seen, Public, Shown, public, back, decided, perform, shows, cardStep}
 use Rattle.card.specs.declared.Card.{Card}
+use Rattle.card.specs.declared.Acted.{Acted}
 use Rattle.card.specs.declared.Answer.{Answer}
 
 -- what is seen of a card: all of it
@@ -46,6 +49,33 @@ pub record Given (c : Card) (text out : List ℕ) (e : Effect) (r : Answer) (out
 -- what a command that is read gives of a card and a call
 abbrev pub Does : Card → Command → Call → Answer → List ℕ → Type 0
 Does c k a r out' = Given c (a .text) (a .out) (decided k (publicOf c) a) r out'
+
+-- where a card has no line
+abbrev pub noLine : Line
+noLine = record { mode = 0; cipher = 0; n = 0; words = [] }
+
+abbrev pub lineOn : Card → ℕ → Line
+lineOn c i = getD (c .lines) i noLine
+
+-- a card whose line i is l
+pub record Holds (c : Card) (i : ℕ) (l : Line) : Type 0 where
+  pub within : i < length (c .lines)
+  pub line-is : lineOn c i ≡ l
+
+-- the answer of a card whose line i is as a command left it
+abbrev pub answerOn : Card → ℕ → Acted → Answer
+answerOn c i r =
+    record {
+      card = record { lines = set (c .lines) i (r .line) };
+      code = r .code;
+      «used_command» = r .«used_command»;
+      «used_data» = r .«used_data»;
+      written = r .written;
+    }
+
+-- what a command that is read gives of its line, on every card that holds it
+abbrev pub Acts : Line → Command → Call → Acted → List ℕ → Type 0
+Acts l k a r out' = (c : Card) → Holds c (lineOf k) l → Does c k a (answerOn c (lineOf k) r) out'
 
 -- the number of a command that is not read
 abbrev pub refusalOf : Decoded → ℕ

@@ -7,10 +7,12 @@ ghost use Prim.Native.Nat.{ℕ, _+_, _≤_, _<_};
 ghost use lib.ListN.{length, take, drop, set};
 ghost use Rattle.words.specs.Tests.{pick};
 ghost use Rattle.ciphers.specs.Table.{cipherAt};
-ghost use Rattle.command.specs.Decode.{numberOf};
+ghost use Rattle.command.specs.Decode.{numberOf, lineOf, decodeOf};
 ghost use Rattle.command.specs.declared.Command.the-variants.{Tray, Own, Crypt, Park, Resume, Close};
-ghost use Rattle.machine.specs.Machine.{Call, idleLine, shown, based, moved, enciphered, opened, openOk, allOk, limit, lineCount, spareUsed, put, refuseIf};
-ghost use Rattle.card.specs.Answer.{callOf, Given, Does, Answered, refusalOf};
+ghost use Rattle.command.specs.declared.Decoded.the-variants.{Run};
+ghost use Rattle.machine.specs.Machine.{Call, idleLine, shown, based, moved, enciphered, opened, openOk, lineOk, limit, spareUsed, put, refuseIf};
+ghost use Rattle.card.specs.declared.Card.{Card};
+ghost use Rattle.card.specs.Answer.{callOf, Holds, answerOn, Given, Acts, Answered, refusalOf};
 ghost use Rattle.card.specs.Ran.{fresh as Ran·fresh};
 use checks::LIMIT;
 use checks::all_ok;
@@ -30,7 +32,16 @@ pub struct Card {
     pub lines: [Line; 8],
 }
 
-// What a call gives: the card, a code (0 accepted), and how many bytes it used of the command and of data, and wrote to out.
+// What a command gives of the line that it names: the line, a code (0 accepted), and how many bytes it used of the command and of data, and wrote to out.
+pub struct Acted {
+    pub line: Line,
+    pub code: u8,
+    pub used_command: usize,
+    pub used_data: usize,
+    pub written: usize,
+}
+
+// What a call gives: the like of the card.
 pub struct Answer {
     pub card: Card,
     pub code: u8,
@@ -39,12 +50,12 @@ pub struct Answer {
     pub written: usize,
 }
 
-// A refusal: the card as it was, and three zeros.
-fn refused(card: Card, code: u8) -> Answer
-    ensures { λ r. ⌜ r ≡ record { card = card; code = code; «used_command» = 0; «used_data» = 0; written = 0 } ⌝ }
+// A refusal: the line as it was, and three zeros.
+fn stopped(line: Line, code: u8) -> Acted
+    ensures { λ r. ⌜ r ≡ record { line = line; code = code; «used_command» = 0; «used_data» = 0; written = 0 } ⌝ }
 {
-    Answer {
-        card,
+    Acted {
+        line,
         code,
         used_command: 0,
         used_data: 0,
@@ -52,15 +63,12 @@ fn refused(card: Card, code: u8) -> Answer
     }
 }
 
-// An open, a resume or a close: the line is set, and so many bytes of the command are used.
-fn placed(card: Card, i: usize, line: Line, used: usize) -> Answer
-    requires { ⌜ i < 8 ⌝ }
-    ensures { λ r. ⌜ r ≡ record { card = record { lines = set (card .lines) i line }; code = 0; «used_command» = used; «used_data» = 0; written = 0 } ⌝ }
+// An open, a resume or a close: the line, and so many bytes of the command used.
+fn placed(line: Line, used: usize) -> Acted
+    ensures { λ r. ⌜ r ≡ record { line = line; code = 0; «used_command» = used; «used_data» = 0; written = 0 } ⌝ }
 {
-    let mut next = card;
-    next.lines[i] = line;
-    Answer {
-        card: next,
+    Acted {
+        line,
         code: 0,
         used_command: used,
         used_data: 0,
@@ -114,79 +122,63 @@ fn first_line(cipher: u8, words: [u32; 20]) -> Line
     }
 }
 
-// Line i is opened with a key and an IV, or refused for a byte beyond the cipher's lengths that is not 0.
-fn open_line(card: Card, i: usize, cipher: Cipher, key: &[u8], iv: &[u8], used: usize) -> Answer
-    requires { ⌜ i < 8 ⌝ }
+// A line is opened with a key and an IV, or refused for a byte beyond the cipher's lengths that is not 0.
+fn open_line(l: Line, cipher: Cipher, key: &[u8], iv: &[u8], used: usize) -> Acted
     requires { ⌜ length (now key) ≡ 32 ⌝ }
     requires { ⌜ length (now iv) ≡ 16 ⌝ }
-    ensures { λ r. ⌜ ((text out : List ℕ) → Given card text out (refuseIf (spareUsed (numberOf cipher) (now (key .entry)) (now (iv .entry))) 7 (put i (opened (numberOf cipher) (take (cipherAt (numberOf cipher) .key) (now (key .entry))) (take (cipherAt (numberOf cipher) .iv) (now (iv .entry)))) used)) r out) ⌝ }
+    ensures { λ r. ⌜ ((c : Card) (i : ℕ) (text out : List ℕ) → Holds c i l → Given c text out (refuseIf (spareUsed (numberOf cipher) (now (key .entry)) (now (iv .entry))) 7 (put i (opened (numberOf cipher) (take (cipherAt (numberOf cipher) .key) (now (key .entry))) (take (cipherAt (numberOf cipher) .iv) (now (iv .entry)))) used)) (answerOn c i r) out) ⌝ }
 {
     let k = key_of(cipher);
     let v = iv_of(cipher);
     let number = number_of(cipher);
     let plain = all_zero(&key[k..]);
     if !plain {
-        return refused(card, 7);
+        return stopped(l, 7);
     }
     let clear = all_zero(&iv[v..]);
     if !clear {
-        return refused(card, 7);
+        return stopped(l, 7);
     }
     let words = dispatch::open(cipher, &key[..k], &iv[..v]);
     let line = first_line(number, words);
-    placed(card, i, line, used)
+    placed(line, used)
 }
 
 // An open with a key of the tray.
-fn run_tray<'a>(
-    card: Card,
-    line: u8,
-    cipher: Cipher,
-    number: u8,
-    tray: &'a [u8],
-    command: &'a [u8],
-) -> Answer
-    requires { ⌜ line < 8 ⌝ }
+fn run_tray<'a>(l: Line, cipher: Cipher, number: u8, tray: &'a [u8], command: &'a [u8]) -> Acted
     requires { ⌜ 20 ≤ length (now command) ⌝ }
-    ensures { λ r. ⌜ ((text out : List ℕ) → Does card (Tray line cipher number) (callOf (now (command .entry)) (now (tray .entry)) text out) r out) ⌝ }
+    ensures { λ r. ⌜ ((i : ℕ) (text out : List ℕ) → Acts l (Tray i cipher number) (callOf (now (command .entry)) (now (tray .entry)) text out) r out) ⌝ }
 {
-    let i = line as usize;
-    let lines = card.lines;
-    let l = lines[i];
     let mode = l.mode;
     if mode != 0 {
-        return refused(card, 5);
+        return stopped(l, 5);
     }
     if tray.len() % 32 != 0 {
-        return refused(card, 9);
+        return stopped(l, 9);
     }
     if tray.len() > 8192 {
-        return refused(card, 9);
+        return stopped(l, 9);
     }
     let at = 32 * (number as usize);
     let end = at + 32;
     if tray.len() < end {
-        return refused(card, 10);
+        return stopped(l, 10);
     }
     let key = key_part(tray, command, false, at);
-    open_line(card, i, cipher, key, &command[4..20], command::TRAY)
+    open_line(l, cipher, key, &command[4..20], command::TRAY)
 }
 
 // An open with the command's own key.
-fn run_own<'a>(card: Card, line: u8, cipher: Cipher, tray: &'a [u8], command: &'a [u8]) -> Answer
-    requires { ⌜ line < 8 ⌝ }
+fn run_own<'a>(l: Line, cipher: Cipher, tray: &'a [u8], command: &'a [u8]) -> Acted
     requires { ⌜ 51 ≤ length (now command) ⌝ }
-    ensures { λ r. ⌜ ((text out : List ℕ) → Does card (Own line cipher) (callOf (now (command .entry)) (now (tray .entry)) text out) r out) ⌝ }
+    ensures { λ r. ⌜ ((i : ℕ) (text out : List ℕ) → Acts l (Own i cipher) (callOf (now (command .entry)) (now (tray .entry)) text out) r out) ⌝ }
 {
-    let i = line as usize;
-    let lines = card.lines;
-    let l = lines[i];
     let mode = l.mode;
     if mode != 0 {
-        return refused(card, 5);
+        return stopped(l, 5);
     }
     let key = key_part(tray, command, true, 3);
-    open_line(card, i, cipher, key, &command[35..51], command::OWN)
+    open_line(l, cipher, key, &command[35..51], command::OWN)
 }
 
 // The line as many bytes on as the text has, which goes to the start of out, XORed with the line's keystream.
@@ -212,37 +204,31 @@ fn crypt_line(l: Line, text: &[u8], out: &mut [u8]) -> Line
 }
 
 // A crypt of count bytes.
-fn run_crypt(card: Card, line: u8, count: usize, data: &[u8], out: &mut [u8]) -> Answer
-    requires { ⌜ line < 8 ⌝ }
-    requires { ⌜ allOk lineCount (card .lines) ≡ true ⌝ }
-    ensures { λ r. ⌜ ((command tray : List ℕ) → Does card (Crypt line count) (callOf command tray (now («data» .entry)) (now (out .entry))) r (now (out .exit))) ⌝ }
+fn run_crypt(l: Line, count: usize, data: &[u8], out: &mut [u8]) -> Acted
+    requires { ⌜ lineOk l ≡ true ⌝ }
+    ensures { λ r. ⌜ ((i : ℕ) (command tray : List ℕ) → Acts l (Crypt i count) (callOf command tray (now («data» .entry)) (now (out .entry))) r (now (out .exit))) ⌝ }
 {
-    let i = line as usize;
-    let lines = card.lines;
-    let l = lines[i];
     let mode = l.mode;
     let n = l.n;
     let k = count as u64;
     if mode != 1 {
-        return refused(card, 6);
+        return stopped(l, 6);
     }
     if k > LIMIT {
-        return refused(card, 13);
+        return stopped(l, 13);
     }
     if n > LIMIT - k {
-        return refused(card, 13);
+        return stopped(l, 13);
     }
     if data.len() < count {
-        return refused(card, 11);
+        return stopped(l, 11);
     }
     if out.len() < count {
-        return refused(card, 12);
+        return stopped(l, 12);
     }
     let on = crypt_line(l, &data[..count], out);
-    let mut next = card;
-    next.lines[i] = on;
-    Answer {
-        card: next,
+    Acted {
+        line: on,
         code: 0,
         used_command: command::CRYPT,
         used_data: count,
@@ -251,26 +237,20 @@ fn run_crypt(card: Card, line: u8, count: usize, data: &[u8], out: &mut [u8]) ->
 }
 
 // A park: the line's image goes to the start of out, and the line is idle.
-fn run_park(card: Card, line: u8, out: &mut [u8]) -> Answer
-    requires { ⌜ line < 8 ⌝ }
-    ensures { λ r. ⌜ ((command tray text : List ℕ) → Does card (Park line) (callOf command tray text (now (out .entry))) r (now (out .exit))) ⌝ }
+fn run_park(l: Line, out: &mut [u8]) -> Acted
+    ensures { λ r. ⌜ ((i : ℕ) (command tray text : List ℕ) → Acts l (Park i) (callOf command tray text (now (out .entry))) r (now (out .exit))) ⌝ }
 {
-    let i = line as usize;
-    let lines = card.lines;
-    let l = lines[i];
     let mode = l.mode;
     if mode != 1 {
-        return refused(card, 6);
+        return stopped(l, 6);
     }
     if out.len() < image::LENGTH {
-        return refused(card, 12);
+        return stopped(l, 12);
     }
     image::put(l, out);
     let idle = idle_line();
-    let mut next = card;
-    next.lines[i] = idle;
-    Answer {
-        card: next,
+    Acted {
+        line: idle,
         code: 0,
         used_command: command::PARK,
         used_data: 0,
@@ -279,50 +259,100 @@ fn run_park(card: Card, line: u8, out: &mut [u8]) -> Answer
 }
 
 // A resume from the command's image.
-fn run_resume(card: Card, line: u8, command: &[u8]) -> Answer
-    requires { ⌜ line < 8 ⌝ }
+fn run_resume(l: Line, command: &[u8]) -> Acted
     requires { ⌜ 91 ≤ length (now command) ⌝ }
-    ensures { λ r. ⌜ ((tray text out : List ℕ) → Does card (Resume line) (callOf (now (command .entry)) tray text out) r out) ⌝ }
+    ensures { λ r. ⌜ ((i : ℕ) (tray text out : List ℕ) → Acts l (Resume i) (callOf (now (command .entry)) tray text out) r out) ⌝ }
 {
-    let i = line as usize;
-    let lines = card.lines;
-    let l = lines[i];
     let mode = l.mode;
     if mode != 0 {
-        return refused(card, 5);
+        return stopped(l, 5);
     }
     let img = &command[2..91];
     let back = image::read(img);
     let ok = open_ok(back);
     if !ok {
-        return refused(card, 8);
+        return stopped(l, 8);
     }
-    placed(card, i, back, command::RESUME)
+    placed(back, command::RESUME)
 }
 
 // A close: the line is idle.
-fn run_close(card: Card, line: u8) -> Answer
-    requires { ⌜ line < 8 ⌝ }
-    ensures { λ r. ⌜ ((a : Call) → Does card (Close line) a r (a .out)) ⌝ }
+fn run_close(l: Line) -> Acted
+    ensures { λ r. ⌜ ((i : ℕ) (a : Call) → Acts l (Close i) a r (a .out)) ⌝ }
 {
-    let i = line as usize;
-    let lines = card.lines;
-    let l = lines[i];
     let mode = l.mode;
     if mode != 1 {
-        return refused(card, 6);
+        return stopped(l, 6);
     }
     let idle = idle_line();
-    placed(card, i, idle, command::CLOSE)
+    placed(idle, command::CLOSE)
+}
+
+// What a command that is read does to the line that it names, whatever else is on the card.
+pub fn act<'a>(
+    l: Line,
+    k: Command,
+    command: &'a [u8],
+    tray: &'a [u8],
+    data: &[u8],
+    out: &mut [u8],
+) -> Acted
+    requires { ⌜ lineOk l ≡ true ⌝ }
+    requires { ⌜ decodeOf (now command) ≡ Run k ⌝ }
+    ensures { λ r. ⌜ Acts l k (callOf (now (command .entry)) (now (tray .entry)) (now («data» .entry)) (now (out .entry))) r (now (out .exit)) ⌝ }
+{
+    match k {
+        Command::Tray {
+            line: _,
+            cipher,
+            key,
+        } => run_tray(l, cipher, key, tray, command),
+        Command::Own { line: _, cipher } => run_own(l, cipher, tray, command),
+        Command::Crypt { line: _, count } => run_crypt(l, count, data, out),
+        Command::Park { line: _ } => run_park(l, out),
+        Command::Resume { line: _ } => run_resume(l, command),
+        Command::Close { line: _ } => run_close(l),
+    }
+}
+
+// The line that a command names.
+pub fn line_of(k: Command) -> u8
+    ensures { λ r. ⌜ r ≡ lineOf k ⌝ }
+{
+    match k {
+        Command::Tray {
+            line,
+            cipher: _,
+            key: _,
+        } => line,
+        Command::Own { line, cipher: _ } => line,
+        Command::Crypt { line, count: _ } => line,
+        Command::Park { line } => line,
+        Command::Resume { line } => line,
+        Command::Close { line } => line,
+    }
 }
 
 // The number of a command that is not read.
-fn refusal_number(d: Decoded) -> u8
+pub fn refusal_number(d: Decoded) -> u8
     ensures { λ r. ⌜ r ≡ refusalOf d ⌝ }
 {
     match d {
         Decoded::Run(_) => 0,
         Decoded::Refused(k) => k,
+    }
+}
+
+// The answer with a card, a code and counts.
+fn answered(card: Card, code: u8, used_command: usize, used_data: usize, written: usize) -> Answer
+    ensures { λ r. ⌜ r ≡ record { card = card; code = code; «used_command» = «used_command»; «used_data» = «used_data»; written = written } ⌝ }
+{
+    Answer {
+        card,
+        code,
+        used_command,
+        used_data,
+        written,
     }
 }
 
@@ -339,19 +369,24 @@ pub fn call<'a>(
     let lines = card.lines;
     let ok = all_ok(lines);
     if !ok {
-        return refused(card, 255);
+        return answered(card, 255, 0, 0, 0);
     }
     let d = decode(command);
     let Decoded::Run(k) = d else {
         let number = refusal_number(d);
-        return refused(card, number);
+        return answered(card, number, 0, 0, 0);
     };
-    match k {
-        Command::Tray { line, cipher, key } => run_tray(card, line, cipher, key, tray, command),
-        Command::Own { line, cipher } => run_own(card, line, cipher, tray, command),
-        Command::Crypt { line, count } => run_crypt(card, line, count, data, out),
-        Command::Park { line } => run_park(card, line, out),
-        Command::Resume { line } => run_resume(card, line, command),
-        Command::Close { line } => run_close(card, line),
-    }
+    let i = line_of(k) as usize;
+    let l = lines[i];
+    let acted = act(l, k, command, tray, data, out);
+    let line = acted.line;
+    let mut next = card;
+    next.lines[i] = line;
+    answered(
+        next,
+        acted.code,
+        acted.used_command,
+        acted.used_data,
+        acted.written,
+    )
 }

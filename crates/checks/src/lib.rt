@@ -26,19 +26,17 @@ pub fn all_zero(s: &[u8]) -> bool
     true
 }
 
-// Whether all words are zero.
-fn words_zero(w: [u32; 20]) -> bool
-    ensures { λ r. ⌜ r ≡ allZero w ⌝ }
+// Whether all words are zero. They are put together first, so that there is one test and not one a word.
+pub fn words_zero(s: &[u32]) -> bool
+    ensures { λ r. ⌜ r ≡ allZero (now (s .entry)) ⌝ }
 {
+    let mut all: u32 = 0;
     let mut i: usize = 0;
-    while i < 20 {
-        let x = w[i];
-        if x != 0 {
-            return false;
-        }
+    while i < s.len() {
+        all = all | s[i];
         i += 1;
     }
-    true
+    all == 0
 }
 
 // Whether the first sixteen words are cells of ZUC.
@@ -153,11 +151,11 @@ fn idle_ok(l: Line) -> bool
     if n != 0 {
         return false;
     }
-    words_zero(w)
+    words_zero(&w)
 }
 
 // Whether a line is as a call leaves it.
-fn line_ok(l: Line) -> bool
+pub fn line_ok(l: Line) -> bool
     ensures { λ r. ⌜ r ≡ lineOk l ⌝ }
 {
     let mode = l.mode;

@@ -1,69 +1,200 @@
--- A card's words, line by line: lines that are read one after the other are those of the words, and lines that are written one behind the other are the card's words.
+-- A card's words, line by line: a line that passes has the words that it was read from, so a card whose line i is set has the words of that line in its place and
+-- the other words as they were.
 -- Assumes nothing.
-use mathlib.Core.Path.{_≡_, refl, ap, ap₂, sym, _∙_}
-use mathlib.Core.List.{List, [], _∷_, _++_, append-assoc, append-nil}
-use Prim.Native.Nat.{ℕ, zero, suc, _+_, _-_, _*_, _/_, _%_, _^_, _<_, _≤_}
-use native.Mathlib.Nat.{le-of-suc-le-suc, not-suc-le-zero}
-use native.Mathlib.Numerals.{add-one}
+use mathlib.Core.Path.{_≡_, refl, ap, ap₂, sym, subst, _∙_}
+use mathlib.Core.Bool.{Bool, true, false}
+use mathlib.Core.List.{List, [], _∷_, _++_, append-assoc}
+use Prim.Native.Nat.{ℕ, zero, suc, _+_, _-_, _*_, _/_, _%_, _^_, _<_, _≤_, min}
+use native.Mathlib.Nat.{not-suc-le-zero}
+use native.Mathlib.Decide.{decLt}
 use native.Mathlib.Omega.{arith}
 use borrow.Rule.Slice.PartMut.{putMid}
-use lib.ListN.{length, getD, take, drop, set, length-append}
-use lib.Seq.{drop-cons, drop-length, set-at, sets-eq, take-all}
-use Rattle.keystream.proofs.Parts.{tail-part, tail-length}
+use borrow.Author.Tests.{eqb-true, leb-true}
+use lib.Dec.{eqb, leb}
+use lib.Arith.{digits-div, digits-mod}
+use lib.ListN.{length, getD, take, drop, set, replicate, take-append-drop, length-drop}
+use lib.Seq.{length-take-le, sets-eq, drop-drop, take-add, getD-take}
+use Rattle.words.specs.Lists.{tab}
+use Rattle.words.specs.Tests.{both, pick}
+use Rattle.words.proofs.Registers.{listed, cons}
+use Rattle.keystream.proofs.Parts.{put-tail, tail-part, tail-length}
 use Rattle.buffer.proofs.Fronts.{Front, front-more}
+use Rattle.ciphers.specs.Table.{allOf, isZero, allZero, isCipher}
+use Rattle.ciphers.proofs.Tests.{both-left, both-right}
 use Rattle.line.specs.declared.Line.{Line}
-use Rattle.machine.specs.Machine.{idleLine}
-use Rattle.card.specs.declared.Card.{Card}
-use Rattle.pipeshear.specs.Words.{lineIn, linesIn, cardIn, lineWords, linesWords, cardWords}
+use Rattle.machine.specs.Machine.{Call, lineOk, allOk, lineCount, idleOk, openOk, idleLine}
+use Rattle.command.specs.declared.Command.{Command}
+use Rattle.command.specs.declared.Decoded.the-variants.{Run}
+use Rattle.command.specs.Decode.{decodeOf, lineOf}
+use Rattle.card.specs.declared.Acted.{Acted}
+use Rattle.card.specs.Answer.{noLine, lineOn, answerOn, Acts, Answered}
+use Rattle.card.proofs.Laws.{line-ok-at}
+use Rattle.card.proofs.Entry.{acted-on}
+use Rattle.pipeshear.specs.Words.{lineIn, linesIn, cardIn, lineWords, linesWords, cardWords, Held}
 
--- ---- reading
+-- ---- a line and its words
 
-lines-length : (i : ℕ) (ws : List ℕ) → length (linesIn i ws) ≡ i
-lines-length zero ws = refl
-lines-length (suc i) ws =
-    length-append (linesIn i ws) (lineIn (drop (24 * i) ws) ∷ []) ∙ ap (λ (n : ℕ). n + 1) (lines-length i ws) ∙ add-one i
+-- the words of a line, one by one
+spelt : (ws : List ℕ) → 24 ≤ length ws → ws ≡ tab 24 (λ k. getD (take 24 ws) k 0) ++ drop 24 ws
+spelt ws h = sym (take-append-drop 24 ws) ∙ ap (λ (x : List ℕ). x ++ drop 24 ws) (listed 24 (take 24 ws) (length-take-le 24 ws h))
 
--- the line after those that are read
-pub read-next : (ws : List ℕ) (i : ℕ) (lines start : List Line) (l : Line) → i < length start → lines ≡ linesIn i ws ++ drop i start →
-    l ≡ lineIn (take (length ws - 24 * i) (drop (24 * i) ws)) → set lines i l ≡ linesIn (i + 1) ws ++ drop (i + 1) start
-read-next ws i lines start l h e k =
-    let s : linesIn (i + 1) ws ≡ linesIn i ws ++ (lineIn (drop (24 * i) ws) ∷ []) = ap (λ (n : ℕ). linesIn n ws) (add-one i) in
-    ap₂ (λ (x : List Line) (y : Line). set x i y) (e ∙ ap (λ (x : List Line). linesIn i ws ++ x) (drop-cons start i idleLine h)) (k ∙ ap lineIn (tail-part (24 * i) ws))
-    ∙ set-at (linesIn i ws) (getD start i idleLine) (drop (suc i) start) (lineIn (drop (24 * i) ws)) i (lines-length i ws)
-    ∙ sym (append-assoc (linesIn i ws) (lineIn (drop (24 * i) ws) ∷ []) (drop (suc i) start))
-    ∙ ap₂ (λ (x : List Line) (n : ℕ). x ++ drop n start) (sym s) (sym (add-one i))
+-- mode and cipher of a line that passes
+small : (l : Line) → lineOk l ≡ true → (l .mode < 255) × (l .cipher < 255)
+unfolding lineOk idleOk openOk
+small l h = by (eqb (l .mode) 0) refl
+  where
+    by : (b : Bool) → eqb (l .mode) 0 ≡ b → (l .mode < 255) × (l .cipher < 255)
+    by true e =
+        let i : idleOk l ≡ true = sym (ap (λ (b : Bool). pick b (idleOk l) (both (eqb (l .mode) 1) (openOk l))) e) ∙ h in
+        let m = eqb-true (l .mode) 0 e in
+        let c = eqb-true (l .cipher) 0 (both-left _ _ i) in
+        (omega arith, omega arith)
+    by false e =
+        let o : both (eqb (l .mode) 1) (openOk l) ≡ true = sym (ap (λ (b : Bool). pick b (idleOk l) (both (eqb (l .mode) 1) (openOk l))) e) ∙ h in
+        let m = eqb-true (l .mode) 1 (both-left _ _ o) in
+        let c = leb-true (l .cipher) 5 (both-right (leb 1 (l .cipher)) (leb (l .cipher) 5) (both-left (isCipher (l .cipher)) _ (both-right (eqb (l .mode) 1) (openOk l) o))) in
+        (omega arith, omega arith)
+
+-- the words of a line that passes
+held-by : (f : ℕ → ℕ) (rest : List ℕ) → f 3 < 2 ^ 32 → lineOk (lineIn (tab 24 f ++ rest)) ≡ true → lineWords (lineIn (tab 24 f ++ rest)) ≡ tab 24 f
+unfolding lineIn lineWords
+held-by f rest h k =
+    let s = small (lineIn (tab 24 f ++ rest)) k in
+    let m : min (f 0) 255 ≡ f 0 = omega (arith, s .0) in
+    let c : min (f 1) 255 ≡ f 1 = omega (arith, s .1) in
+    cons m (cons c (cons (digits-div (f 2) h) (cons (digits-mod (f 2) h) refl)))
+
+pub line-held : (ws : List ℕ) → 24 ≤ length ws → getD ws 3 0 < 2 ^ 32 → lineOk (lineIn ws) ≡ true → lineWords (lineIn ws) ≡ take 24 ws
+line-held ws n h k =
+    let f : ℕ → ℕ = λ k. getD (take 24 ws) k 0 in
+    let e = spelt ws n in
+    let h' : f 3 < 2 ^ 32 = subst (λ (x : ℕ). x < 2 ^ 32) (sym (getD-take 24 ws 3 0 (omega arith))) h in
+    ap (λ (x : List ℕ). lineWords (lineIn x)) e
+    ∙ held-by f (drop 24 ws) h' (sym (ap (λ (x : List ℕ). lineOk (lineIn x)) e) ∙ k)
+    ∙ sym (listed 24 (take 24 ws) (length-take-le 24 ws n))
+
+-- a line of zeros is idle
+zeros-are : (l : List ℕ) → allZero l ≡ true → l ≡ replicate (length l) 0
+zeros-are [] h = refl
+zeros-are (x ∷ l) h = cons (eqb-true x 0 (both-left (isZero x) (allOf isZero l) h)) (zeros-are l (both-right (isZero x) (allOf isZero l) h))
+
+pub zero-line : (ws : List ℕ) → 24 ≤ length ws → allZero (take 24 ws) ≡ true → (lineOk (lineIn ws) ≡ true) × (lineWords (lineIn ws) ≡ take 24 ws)
+unfolding lineIn lineWords lineOk idleOk
+zero-line ws n h =
+    let z : take 24 ws ≡ replicate 24 0 = zeros-are (take 24 ws) h ∙ ap (λ (k : ℕ). replicate k 0) (length-take-le 24 ws n) in
+    let e : ws ≡ replicate 24 0 ++ drop 24 ws = sym (take-append-drop 24 ws) ∙ ap (λ (x : List ℕ). x ++ drop 24 ws) z in (
+      ap (λ (x : List ℕ). lineOk (lineIn x)) e,
+      ap (λ (x : List ℕ). lineWords (lineIn x)) e ∙ sym z,
+    )
+
+-- ---- lines and their words
+
+further : (j : ℕ) (ws : List ℕ) → drop (24 * j) (drop 24 ws) ≡ drop (24 * suc j) ws
+further j ws =
+    let e : 24 + 24 * j ≡ 24 * suc j = omega arith in
+    drop-drop (24 * j) 24 ws ∙ ap (λ (k : ℕ). drop k ws) e
+
+lines-first : (k : ℕ) (ws : List ℕ) → linesIn (suc k) ws ≡ lineIn ws ∷ linesIn k (drop 24 ws)
+lines-first zero ws = refl
+lines-first (suc k) ws = ap₂ (λ (x : List Line) (y : List ℕ). x ++ (lineIn y ∷ [])) (lines-first k ws) (sym (further k ws))
+
+line-at : (k i : ℕ) (ws : List ℕ) (d : Line) → i < k → getD (linesIn k ws) i d ≡ lineIn (drop (24 * i) ws)
+line-at zero i ws d h = absurd (not-suc-le-zero h)
+line-at (suc k) zero ws d h = ap (λ (x : List Line). getD x 0 d) (lines-first k ws)
+line-at (suc k) (suc i) ws d h =
+    ap (λ (x : List Line). getD x (suc i) d) (lines-first k ws) ∙ line-at k i (drop 24 ws) d (omega arith) ∙ ap lineIn (further i ws)
+
+lines-count : (k : ℕ) (ws : List ℕ) → length (linesIn k ws) ≡ k
+lines-count zero ws = refl
+lines-count (suc k) ws = ap length (lines-first k ws) ∙ ap suc (lines-count k (drop 24 ws))
+
+held-rest : (k : ℕ) (ws : List ℕ) → Held (suc k) ws → Held k (drop 24 ws)
+held-rest k ws h j q =
+    ap (λ (x : List ℕ). lineWords (lineIn x)) (further j ws) ∙ h (suc j) (omega arith) ∙ ap (take 24) (sym (further j ws))
+
+rest-length : (k : ℕ) (ws : List ℕ) → length ws ≡ 24 * suc k → length (drop 24 ws) ≡ 24 * k
+rest-length k ws n = omega (arith, length-drop 24 ws)
+
+-- all lines
+words-same : (k : ℕ) (ws : List ℕ) → length ws ≡ 24 * k → Held k ws → linesWords (linesIn k ws) ≡ ws
+words-same zero [] n h = refl
+words-same zero (w ∷ ws) n h = absurd (omega arith)
+words-same (suc k) ws n h =
+    ap linesWords (lines-first k ws)
+    ∙ ap₂ (λ (x y : List ℕ). x ++ y) (h 0 (omega arith)) (words-same k (drop 24 ws) (rest-length k ws n) (held-rest k ws h))
+    ∙ take-append-drop 24 ws
+
+pub card-same : (ws : List ℕ) → length ws ≡ 192 → Held 8 ws → cardWords (cardIn ws) ≡ ws
+unfolding cardIn cardWords
+card-same ws n h = words-same 8 ws n h
+
+-- one of them set
+words-set : (k i : ℕ) (ws : List ℕ) (l : Line) → i < k → length ws ≡ 24 * k → Held k ws →
+    linesWords (set (linesIn k ws) i l) ≡ take (24 * i) ws ++ (lineWords l ++ drop 24 (drop (24 * i) ws))
+words-set zero i ws l q n h = absurd (not-suc-le-zero q)
+words-set (suc k) zero ws l q n h =
+    ap (λ (x : List Line). linesWords (set x 0 l)) (lines-first k ws)
+    ∙ ap (λ (x : List ℕ). lineWords l ++ x) (words-same k (drop 24 ws) (rest-length k ws n) (held-rest k ws h))
+words-set (suc k) (suc i) ws l q n h =
+    let t : take 24 ws ++ take (24 * i) (drop 24 ws) ≡ take (24 * suc i) ws =
+    sym (take-add 24 (24 * i) ws) ∙ ap (λ (k : ℕ). take k ws) (let e : 24 + 24 * i ≡ 24 * suc i = omega arith in e) in
+    ap (λ (x : List Line). linesWords (set x (suc i) l)) (lines-first k ws)
+    ∙ ap₂ (λ (x y : List ℕ). x ++ y) (h 0 (omega arith)) (words-set k i (drop 24 ws) l (omega arith) (rest-length k ws n) (held-rest k ws h))
+    ∙ sym (append-assoc (take 24 ws) (take (24 * i) (drop 24 ws)) (lineWords l ++ drop 24 (drop (24 * i) (drop 24 ws))))
+    ∙ ap₂ (λ (x y : List ℕ). x ++ (lineWords l ++ drop 24 y)) t (further i ws)
 
 -- the part of the words that a line is read from or written to has its 24
 pub line-fits : (ws : List ℕ) (i : ℕ) → i < 8 → length ws ≡ 192 → 24 ≤ length (take (length ws - 24 * i) (drop (24 * i) ws))
 line-fits ws i h n = omega (arith, tail-length (24 * i) ws)
 
--- ---- writing
+-- what was found of the part is so of the line
+pub line-test : (ws : List ℕ) (i : ℕ) → i < 8 → {b : Bool} → b ≡ lineOk (lineIn (take (length ws - 24 * i) (drop (24 * i) ws))) →
+    (i < length (linesIn 8 ws)) × (b ≡ lineOk (getD (linesIn 8 ws) i idleLine))
+line-test ws i h e = (
+  omega (arith, lines-count 8 ws),
+  e ∙ ap (λ (x : List ℕ). lineOk (lineIn x)) (tail-part (24 * i) ws) ∙ sym (ap lineOk (line-at 8 i ws idleLine h)),
+)
 
-words-more : (d : Line) (ls : List Line) (i : ℕ) → i < length ls → linesWords (take (suc i) ls) ≡ linesWords (take i ls) ++ lineWords (getD ls i d)
-words-more d [] i h = absurd (not-suc-le-zero h)
-words-more d (l ∷ ls) zero h = append-nil (lineWords l)
-words-more d (l ∷ ls) (suc i) h =
-    ap (λ (x : List ℕ). lineWords l ++ x) (words-more d ls i (le-of-suc-le-suc h)) ∙ sym (append-assoc (lineWords l) (linesWords (take i ls)) (lineWords (getD ls i d)))
+-- the line that a command names, as it is read
+pub line-named : (ws : List ℕ) (i : ℕ) → i < 8 → allOk lineCount (cardIn ws .lines) ≡ true → {l : Line} → l ≡ lineIn (take (length ws - 24 * i) (drop (24 * i) ws)) →
+    (l ≡ lineOn (cardIn ws) i) × (lineOk l ≡ true)
+unfolding cardIn
+line-named ws i h k {l} e =
+    let z : l ≡ getD (linesIn 8 ws) i noLine = e ∙ ap lineIn (tail-part (24 * i) ws) ∙ sym (line-at 8 i ws noLine h) in
+    (z, ap lineOk z ∙ line-ok-at (cardIn ws) i (lines-count 8 ws) h k)
 
--- one line more
-pub line-more : (d : Line) (ls : List Line) (before out ys : List ℕ) (i : ℕ) → i < length ls → length (lineWords (getD ls i d)) ≡ 24 → 24 * i + 24 ≤ length before →
-    Front (linesWords (take i ls)) before out (24 * i) → ys ≡ lineWords (getD ls i d) ++ drop 24 (take (length out - 24 * i) (drop (24 * i) out)) →
-    Front (linesWords (take (i + 1) ls)) before (putMid (24 * i) (length out - 24 * i) out ys) (24 * (i + 1))
-line-more d ls before out ys i h w q f e =
-    let n : 24 * (i + 1) ≡ 24 * i + 24 = omega arith in
-    let s : linesWords (take (i + 1) ls) ≡ linesWords (take i ls) ++ lineWords (getD ls i d) =
-    ap (λ (k : ℕ). linesWords (take k ls)) (add-one i) ∙ words-more d ls i h in
-    rw (n, s) (front-more (lineWords (getD ls i d)) ys 24 w q f e)
-
--- all of them
-pub lines-all : (ls : List Line) (before out : List ℕ) (i : ℕ) → i ≡ 8 → length ls ≡ 8 → length before ≡ 192 → Front (linesWords (take i ls)) before out (24 * i) →
-    out ≡ linesWords ls
-lines-all ls before out i e n m f =
-    let g = rw e at f in
-    g .is ∙ ap₂ (λ (x : List Line) (y : List ℕ). linesWords x ++ y) (take-all 8 ls (omega arith)) (none before m) ∙ append-nil (linesWords ls)
+-- one line more is held
+pub held-more : (i : ℕ) (ws : List ℕ) → Held i ws →
+    lineWords (lineIn (take (length ws - 24 * i) (drop (24 * i) ws))) ≡ take 24 (take (length ws - 24 * i) (drop (24 * i) ws)) → Held (i + 1) ws
+held-more i ws h e j q = by (decLt j i)
   where
-    none : (l : List ℕ) → length l ≡ 192 → drop 192 l ≡ []
-    none l h = ap (λ (k : ℕ). drop k l) (sym h) ∙ drop-length l
+    by : Dec (j < i) → lineWords (lineIn (drop (24 * j) ws)) ≡ take 24 (drop (24 * j) ws)
+    by (yes p) = h j p
+    by (no p) =
+        let z : j ≡ i = omega arith in
+        let t = rw (tail-part (24 * i) ws) at e in
+        subst (λ (k : ℕ). lineWords (lineIn (drop (24 * k) ws)) ≡ take 24 (drop (24 * k) ws)) (sym z) t
+
+pub no-more : {A : Type 0} → false ≡ true → A
+no-more e = absurd (let z : _≡_ {A = ℕ} 0 1 = cc in omega arith)
+
+-- what a command did to its line, as the line was read, is the card's answer
+pub acted : (ws : List ℕ) (a : Call) (k : Command) (i : ℕ) {l : Line} (w : Acted) (o : List ℕ) → allOk lineCount (cardIn ws .lines) ≡ true → decodeOf (a .command) ≡ Run k →
+    i ≡ lineOf k → i < 8 → l ≡ lineOn (cardIn ws) i → Acts l k a w o → Answered (cardIn ws) a (answerOn (cardIn ws) i w) o
+unfolding cardIn
+acted ws a k i w o ok e n h z f =
+    acted-on (cardIn ws) a (answerOn (cardIn ws) i w) o k i w ok e n (omega (arith, lines-count 8 ws)) (subst (λ (x : Line). Acts x k a w o) z f) refl
+
+-- a line that was written into the part
+pub line-put : (ws ys : List ℕ) (i : ℕ) (l : Line) → i < 8 → length ws ≡ 192 → Held 8 ws →
+    ys ≡ lineWords l ++ drop 24 (take (length ws - 24 * i) (drop (24 * i) ws)) → putMid (24 * i) (length ws - 24 * i) ws ys ≡ cardWords (record { lines = set (cardIn ws .lines) i l })
+unfolding cardIn cardWords
+line-put ws ys i l q n h e =
+    put-tail (24 * i) ws ys (omega arith)
+    ∙ ap (λ (y : List ℕ). take (24 * i) ws ++ y) (e ∙ ap (λ (x : List ℕ). lineWords l ++ drop 24 x) (tail-part (24 * i) ws))
+    ∙ sym (words-set 8 i ws l q n h)
+
+-- ---- a line's own words
 
 -- four words, stored one by one
 pub four-stored : (a b c d : ℕ) (o : List ℕ) → 4 ≤ length o → set (set (set (set o 0 a) 1 b) 2 c) 3 d ≡ (a ∷ b ∷ c ∷ d ∷ []) ++ drop 4 o

@@ -3,9 +3,9 @@
 use mathlib.Core.Path.{_≡_}
 use mathlib.Core.Bool.{not}
 use mathlib.Core.List.{List, [], _∷_, _++_}
-use Prim.Native.Nat.{ℕ, zero, suc, _+_, _*_, _/_, _%_, _^_, min}
+use Prim.Native.Nat.{ℕ, zero, suc, _+_, _*_, _/_, _%_, _^_, _<_, min}
 use lib.Dec.{eqb}
-use lib.ListN.{length, getD, drop}
+use lib.ListN.{length, getD, take, drop}
 use Rattle.words.specs.Lists.{tab}
 use Rattle.words.specs.Tests.{pick}
 use Rattle.line.specs.declared.Line.{Line}
@@ -42,6 +42,10 @@ linesWords (l ∷ ls) = lineWords l ++ linesWords ls
 unfoldable pub cardWords : Card → List ℕ
 cardWords c = linesWords (c .lines)
 
+-- the words of the first k lines are those of the lines that they hold
+abbrev pub Held : ℕ → List ℕ → Type 0
+Held k ws = (j : ℕ) → j < k → lineWords (lineIn (drop (24 * j) ws)) ≡ take 24 (drop (24 * j) ws)
+
 -- what a call gives: the code, the card's words, out and the counts
 pub record Result : Type 0 where
   pub code : ℕ
@@ -49,22 +53,25 @@ pub record Result : Type 0 where
   pub out : List ℕ
   pub counts : List ℕ
 
+abbrev pub leaves : ℕ → List ℕ → List ℕ → ℕ → ℕ → ℕ → Result
+leaves code card out c d w = record { code = code; card = card; out = out; counts = c ∷ d ∷ w ∷ [] }
+
 -- of the card's step: an accepted call changes the words, a refused one leaves them
 unfoldable pub shownAs : Shown → List ℕ → List ℕ → Result
 shownAs s ws out =
-    record {
-      code = s .outcome .code;
-      card = pick (eqb (s .outcome .code) 0) (cardWords (record { lines = s .card .lines })) ws;
-      out = outOf s out;
-      counts = s .outcome .used-command ∷ s .outcome .used-data ∷ length (s .outcome .written) ∷ [];
-    }
+    leaves (s .outcome .code) (pick (eqb (s .outcome .code) 0) (cardWords (record { lines = s .card .lines })) ws) (outOf s out)
+    (s .outcome .used-command) (s .outcome .used-data) (length (s .outcome .written))
+
+-- of a card of 192 words
+unfoldable pub calledOn : List ℕ → Call → Result
+calledOn ws a = shownAs (cardStep (seenOf (cardIn ws)) a) ws (a .out)
 
 -- 255 for a card or counts of the wrong length; counts of the wrong length stay as they are
 unfoldable pub resultOf : List ℕ → Call → List ℕ → Result
 resultOf ws a counts =
     pick (not (eqb (length counts) 3)) (record { code = 255; card = ws; out = a .out; counts = counts })
-    (pick (not (eqb (length ws) 192)) (record { code = 255; card = ws; out = a .out; counts = 0 ∷ 0 ∷ 0 ∷ [] })
-    (shownAs (cardStep (seenOf (cardIn ws)) a) ws (a .out)))
+    (pick (not (eqb (length ws) 192)) (leaves 255 ws (a .out) 0 0 0)
+    (calledOn ws a))
 
 -- the promise of a call: all that it leaves
 pub record Called (ws : List ℕ) (a : Call) (counts : List ℕ) (code : ℕ) (ws' out' counts' : List ℕ) : Type 0 where

@@ -1,12 +1,18 @@
 // The card for programs in C and Rust: a card is an array of 192 words that the caller keeps, all zero for a fresh card, and `pipeshear_call` takes a call.
 // A caller holds nothing: any card, buffers and counts get an answer.
 ghost use mathlib.Core.Path.{_≡_};
+ghost use mathlib.Core.Bool.{true};
 ghost use mathlib.Core.List.{[], _∷_, _++_};
-ghost use Prim.Native.Nat.{_<_, _≤_, min};
-ghost use lib.ListN.{length, drop};
+ghost use Prim.Native.Nat.{_<_, _≤_, _^_, min};
+ghost use lib.ListN.{length, getD, take, drop};
+ghost use Rattle.machine.specs.Machine.{lineOk, allOk, lineCount};
 ghost use Rattle.card.specs.Answer.{callOf};
-ghost use Rattle.pipeshear.specs.Words.{lineWords, lineIn, cardIn, cardWords, Called};
-use card::Card;
+ghost use Rattle.pipeshear.specs.Words.{lineWords, lineIn, cardIn, Held, leaves, calledOn, Called};
+use card::act;
+use card::line_of;
+use card::refusal_number;
+use command::Decoded;
+use command::decode;
 use line::Line;
 
 // The words of a line, and those of a card.
@@ -45,7 +51,7 @@ fn state_in(words: &[u32]) -> [u32; 20]
 // The line that stands at the start of words.
 fn read_line(words: &[u32]) -> Line
     requires { ⌜ 24 ≤ length (now words) ⌝ }
-    ensures { λ r. ⌜ r ≡ lineIn (now (words .entry)) ⌝ }
+    ensures { λ r. ⌜ (r ≡ lineIn (now (words .entry))) × (getD (now (words .entry)) 3 0 < 2 ^ 32) ⌝ }
 {
     let mode = byte(words[0]);
     let cipher = byte(words[1]);
@@ -61,19 +67,35 @@ fn read_line(words: &[u32]) -> Line
     }
 }
 
-// The card that words hold.
-fn read_card(words: &[u32]) -> Card
-    requires { ⌜ length (now words) ≡ 192 ⌝ }
-    ensures { λ r. ⌜ r ≡ cardIn (now (words .entry)) ⌝ }
+// Whether the line at the start of words is as a call leaves it; where it is, the words hold that line and nothing else. Most lines are idle, and all their
+// words zero.
+fn line_ok(words: &[u32]) -> bool
+    requires { ⌜ 24 ≤ length (now words) ⌝ }
+    ensures { λ r. ⌜ (r ≡ lineOk (lineIn (now (words .entry)))) × (r ≡ true → lineWords (lineIn (now (words .entry))) ≡ take 24 (now (words .entry))) ⌝ }
 {
-    let mut card = card::fresh();
+    let idle = checks::words_zero(&words[..LINE]);
+    if idle {
+        return true;
+    }
+    let l = read_line(words);
+    checks::line_ok(l)
+}
+
+// The like of all lines of a card.
+fn all_ok(words: &[u32]) -> bool
+    requires { ⌜ length (now words) ≡ 192 ⌝ }
+    ensures { λ r. ⌜ (r ≡ allOk lineCount (cardIn (now (words .entry)) .lines)) × (r ≡ true → Held 8 (now (words .entry))) ⌝ }
+{
     let mut i: usize = 0;
     while i < 8 {
         let at = LINE * i;
-        card.lines[i] = read_line(&words[at..]);
+        let ok = line_ok(&words[at..]);
+        if !ok {
+            return false;
+        }
         i += 1;
     }
-    card
+    true
 }
 
 // The words of a state go to the start of out.
@@ -114,21 +136,6 @@ fn put_line(l: Line, out: &mut [u32])
     put_state(w, &mut out[4..]);
 }
 
-// The words of a card go to words.
-fn put_card(card: Card, words: &mut [u32])
-    requires { ⌜ length (now words) ≡ 192 ⌝ }
-    ensures { λ _. ⌜ now (words .exit) ≡ cardWords card ⌝ }
-{
-    let lines = card.lines;
-    let mut i: usize = 0;
-    while i < 8 {
-        let l = lines[i];
-        let at = LINE * i;
-        put_line(l, &mut words[at..]);
-        i += 1;
-    }
-}
-
 // The three counts.
 fn put_counts(command: usize, text: usize, written: usize, counts: &mut [usize])
     requires { ⌜ length (now counts) ≡ 3 ⌝ }
@@ -137,6 +144,64 @@ fn put_counts(command: usize, text: usize, written: usize, counts: &mut [usize])
     counts[0] = command;
     counts[1] = text;
     counts[2] = written;
+}
+
+// What a call gives beside the card and out.
+pub struct Outcome {
+    pub code: u8,
+    pub used_command: usize,
+    pub used_data: usize,
+    pub written: usize,
+}
+
+// A refusal: three zeros.
+fn refused(code: u8) -> Outcome
+    ensures { λ r. ⌜ r ≡ record { code = code; «used_command» = 0; «used_data» = 0; written = 0 } ⌝ }
+{
+    Outcome {
+        code,
+        used_command: 0,
+        used_data: 0,
+        written: 0,
+    }
+}
+
+// A call on a card of 192 words. Of these, all are looked at, and those of the line that the command names are read and written.
+fn run<'a>(
+    card: &mut [u32],
+    command: &'a [u8],
+    tray: &'a [u8],
+    data: &[u8],
+    out: &mut [u8],
+) -> Outcome
+    requires { ⌜ length (now card) ≡ 192 ⌝ }
+    ensures { λ r. ⌜ leaves (r .code) (now (card .exit)) (now (out .exit)) (r .«used_command») (r .«used_data») (r .written) ≡ calledOn (now (card .entry)) (callOf (now (command .entry)) (now (tray .entry)) (now («data» .entry)) (now (out .entry))) ⌝ }
+{
+    let ok = all_ok(card);
+    if !ok {
+        return refused(255);
+    }
+    let d = decode(command);
+    let Decoded::Run(k) = d else {
+        let number = refusal_number(d);
+        return refused(number);
+    };
+    let i = line_of(k) as usize;
+    let at = LINE * i;
+    let before = read_line(&card[at..]);
+    let acted = act(before, k, command, tray, data, out);
+    let code = acted.code;
+    if code != 0 {
+        return refused(code);
+    }
+    let after = acted.line;
+    put_line(after, &mut card[at..]);
+    Outcome {
+        code,
+        used_command: acted.used_command,
+        used_data: acted.used_data,
+        written: acted.written,
+    }
 }
 
 // A call on a card of 192 words. Returns the code. The three counts are the bytes used of command and of data, and the bytes written to out; they are zeros
@@ -155,23 +220,11 @@ pub extern "C" fn pipeshear_call<'a>(
     if counts.len() != 3 {
         return 255;
     }
-    put_counts(0, 0, 0, counts);
     if card.len() != CARD {
+        put_counts(0, 0, 0, counts);
         return 255;
     }
-    let before = read_card(card);
-    let answer = card::call(before, command, tray, data, out);
-    let code = answer.code;
-    if code != 0 {
-        return code;
-    }
-    let after = answer.card;
-    put_card(after, card);
-    put_counts(
-        answer.used_command,
-        answer.used_data,
-        answer.written,
-        counts,
-    );
-    code
+    let r = run(card, command, tray, data, out);
+    put_counts(r.used_command, r.used_data, r.written, counts);
+    r.code
 }

@@ -1,39 +1,32 @@
--- `checks::words_zero` meets its contract: the words before i are zero.
+-- `checks::words_zero` meets its contract: the words before i are put together, and the whole is zero where each of them is.
 -- Assumes nothing.
 use Prim.Native.Nat.{_-_}
 use mathlib.Core.Path.{refl}
-use borrow.Author.Tests.{eq-eqb, ne-eqb}
-use Rattle.ciphers.specs.Table.{isZero}
-use Rattle.checks.proofs.Walks.{Passed, fails, passes, all-pass}
+use lib.ListN.{length}
+use Rattle.checks.proofs.Walks.{Gathered, gathered-more, gathered-all}
 use borrow.Author.Needs.{needs}
 use Rattle.checks.proofs.words_zero.Statement.{statement}
 use Rattle.checks.proofs.words_zero.Tie as tie
 
 abbrev Inv-loop : tie.InvT-loop
-Inv-loop w i₀ i = Passed isZero w i
+Inv-loop s all₀ i₀ all i = Gathered s all i
 
 abbrev μ-loop : tie.MeasureT-loop
-μ-loop w i₀ i = 20 - i
+μ-loop s all₀ i₀ all i = length s - i
 
 loop-holds : tie.Need-loop-holds Inv-loop μ-loop
 loop-holds c = (search needs, refl)
 
-returns : tie.Need-returns Inv-loop μ-loop
-returns c =
-    let p = c .before .before in
-    fails isZero (p .before .args .t1) (p .loop .i) (search needs) (p .loop .inv) (ne-eqb _ _ (c .if1 .taken))
-
 loop-again : tie.Need-loop-again Inv-loop μ-loop
 loop-again c =
     let p = c .before .before in
-    passes isZero (p .before .args .t1) (p .loop .i) (search needs) (p .loop .inv) (eq-eqb _ _ (c .if1 .left))
+    gathered-more (p .before .args .s .now) (p .loop .all) (p .loop .i) (search needs) (p .loop .inv)
 
-returns-2 : tie.Need-returns-2 Inv-loop μ-loop
-returns-2 c =
+returns : tie.Need-returns Inv-loop μ-loop
+returns c =
     let p = c .before in
-    all-pass isZero (p .before .args .t1) (p .loop .i) (search needs) (p .loop .inv)
+    gathered-all (p .before .args .s .now) (p .loop .all) (p .loop .i) (c .loop-test .left) (p .loop .inv)
 
 pub words-zero-spec : {M : Type 1} → statement M
 words-zero-spec =
-    tie.close (tie.spec Inv-loop μ-loop loop-holds (search needs) (search needs) returns (search needs) (search needs)
-    loop-again returns-2)
+    tie.close (tie.spec Inv-loop μ-loop loop-holds (search needs) (search needs) (search needs) (search needs) loop-again returns)

@@ -1,5 +1,7 @@
 -- `pipeshear::read_line` meets its contract: each field comes from its words.
 -- Assumes nothing.
+use Prim.Native.Nat.{ℕ, _^_, _<_}
+use mathlib.Core.Path.{subst}
 use native.Mathlib.Omega.{arith}
 use Rattle.pipeshear.specs.Words.{lineIn}
 use borrow.Author.Needs.{needs}
@@ -19,7 +21,10 @@ returns : tie.Need-returns
 unfolding lineIn
 returns c =
     let h = c .before .before .before in
-    rw (h .before .before .before .before .byte .ensures, h .before .before .byte2 .ensures, h .wide .ensures .0, c .before .wide2 .ensures .0, c .state-in .ensures)
+    let w = c .before .wide2 in (
+      rw (h .before .before .before .before .byte .ensures, h .before .before .byte2 .ensures, h .wide .ensures .0, w .ensures .0, c .state-in .ensures),
+      subst (λ (x : ℕ). x < 2 ^ 32) (w .ensures .0) (w .ensures .1),
+    )
 
 pub read-line-spec : {M : Type 1} → statement M
 read-line-spec =
