@@ -8,8 +8,9 @@ use native.Mathlib.Numerals.{add-one}
 use native.Mathlib.Omega.{arith}
 use borrow.Rule.Slice.PartMut.{putMid}
 use lib.ListN.{length, getD, take, drop, set, length-append, length-drop}
-use lib.Seq.{take-at, drop-at, drop-drop, drop-cons, take-suc, take-all, set-at}
-use Rattle.keystream.proofs.Parts.{put-tail, tail-part, tail-length}
+use lib.Seq.{drop-cons, take-suc, take-all, set-at}
+use Rattle.keystream.proofs.Parts.{tail-length}
+use Rattle.keystream.proofs.Filling.{part-more}
 
 -- p, of a bytes, stands before what was there
 pub record Front (p before out : List ℕ) (a : ℕ) : Type 0 where
@@ -43,17 +44,10 @@ pub front-more : {p before out : List ℕ} {a : ℕ} (b ys : List ℕ) (k : ℕ)
     → ys ≡ b ++ drop k (take (length out - a) (drop a out)) → Front (p ++ b) before (putMid a (length out - a) out ys) (a + k)
 front-more {p} {before} {out} {a} b ys k l h f e =
     let s = f .size in
-    let n = front-length f in
-    let rest : drop a out ≡ drop a before = ap (drop a) (f .is) ∙ drop-at p (drop a before) a s in
     record {
       size = length-append p b ∙ (let z : length p + length b ≡ a + k = omega arith in z);
       fits = h;
-      is =
-          put-tail a out ys (omega arith)
-          ∙ ap (λ (x : List ℕ). x ++ ys) (ap (take a) (f .is) ∙ take-at p (drop a before) a s)
-          ∙ ap (λ (x : List ℕ). p ++ x)
-          (e ∙ ap (λ (x : List ℕ). b ++ drop k x) (tail-part a out ∙ rest) ∙ ap (λ (x : List ℕ). b ++ x) (drop-drop k a before))
-          ∙ sym (append-assoc p b (drop (a + k) before));
+      is = part-more p b before out ys a k s h (f .is) e;
     }
 
 -- one byte more, stored behind what is written

@@ -26,7 +26,7 @@ use Rattle.kcipher2.specs.Range as KR
 use Rattle.kcipher2.specs.declared.Kcipher2.{Kcipher2}
 use Rattle.kcipher2.proofs.Ranges as KL
 use Rattle.crypt_zuc.specs.Generator.{gen as zucGen}
-use Rattle.crypt_rabbit.specs.Generator.{gen as rabbitGen}
+use Rattle.rabbit.specs.Generator.{gen as rabbitGen}
 use Rattle.crypt_snow2.specs.Generator.{gen as snow2Gen}
 use Rattle.crypt_kcipher2.specs.Generator.{gen as kcipher2Gen}
 use Rattle.ciphers.specs.States.{zucWords, zucState, rabbitWords, rabbitState, snow2Words, snow2State, kcipher2Words, kcipher2State}

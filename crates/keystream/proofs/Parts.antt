@@ -58,7 +58,7 @@ module _ {S : Type 0} (g : Gen S) (pos : zero < g .unit) where
       (h .0 ∙ sym (stateAt-place s n k), h .1 ∙ ap (λ (x : List ℕ). x ++ out) (sym (xorFrom-place s n text)))
 
   -- from the state on the way
-  state-on : (s : S) (p i : ℕ) → stateAt g (stateAt g s 0 (p / g .unit)) 0 ((p % g .unit + i) / g .unit) ≡ stateAt g s 0 ((p + i) / g .unit)
+  pub state-on : (s : S) (p i : ℕ) → stateAt g (stateAt g s 0 (p / g .unit)) 0 ((p % g .unit + i) / g .unit) ≡ stateAt g s 0 ((p + i) / g .unit)
   state-on s p i =
       sym (stateAt-place (stateAt g s 0 (p / g .unit)) p i)
       ∙ stateAt-rebase g pos s 0 (p / g .unit) ((p + i) / g .unit) (omega arith) (div-mono (g .unit) pos p (p + i) (omega arith))
@@ -82,7 +82,7 @@ module _ {S : Type 0} (g : Gen S) (pos : zero < g .unit) where
         out-is = refl;
       }
 
-  byte-small : (s : S) (j : ℕ) → j < g .unit → byteAt g s 0 j ≡ getD (g .strm s) j 0
+  pub byte-small : (s : S) (j : ℕ) → j < g .unit → byteAt g s 0 j ≡ getD (g .strm s) j 0
   unfolding byteAt
   byte-small s j q =
       ap (λ (k : ℕ). getD (g .strm (stateAt g s 0 k)) (j % g .unit) 0) (div-eq-of-lt q)

@@ -6,7 +6,7 @@ use mathlib.Core.List.{List, [], _∷_, _++_}
 use Prim.Native.Nat.{ℕ, suc, _+_, _-_, _/_, _%_}
 use lib.ListN.{getD, take, drop}
 use Rattle.words.specs.Word.{_⊕_}
-use Rattle.words.specs.Lists.{iter}
+use Rattle.words.specs.Lists.{tab, iter}
 
 -- a generator over states of the type S: document 01's unit u, Next and Strm
 pub record Gen (S : Type 0) : Type 0 where
@@ -32,3 +32,8 @@ xorFrom f n (d ∷ ds) = d ⊕ f n ∷ xorFrom f (suc n) ds
 pub record Did {S : Type 0} (g : Gen S) (n : ℕ) (s : S) (k : ℕ) (text out : List ℕ) (s' : S) (out' : List ℕ) : Type 0 where
   pub state-is : s' ≡ stateAt g s 0 ((n + k) / g .unit)
   pub out-is : out' ≡ xorFrom (byteAt g s 0) n (take k text) ++ drop k out
+
+-- What a filling did: the first k bytes of the stream of s went to the start of a buffer, and the state is that of the unit in which the next byte lies.
+pub record Filled {S : Type 0} (g : Gen S) (s : S) (k : ℕ) (buffer : List ℕ) (s' : S) (buffer' : List ℕ) : Type 0 where
+  pub state-is : s' ≡ stateAt g s 0 (k / g .unit)
+  pub bytes-are : buffer' ≡ tab k (byteAt g s 0) ++ drop k buffer

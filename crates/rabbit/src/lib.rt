@@ -1,13 +1,16 @@
-// Rabbit (ISO/IEC 18033-4, 8.3; Amd 1:2009, 7.3): a state by value, its step, its output and its start from key and IV.
-// A caller holds the lengths of key and IV, sixteen bytes and eight.
+// Rabbit (ISO/IEC 18033-4, 8.3; Amd 1:2009, 7.3): a state by value, its step, its output, its keystream in a buffer and its start from key and IV.
+// `fill` is the one place that calls `step`, so that it is compiled into its loop. A caller holds the lengths of key and IV, sixteen bytes and eight.
 pub mod tables;
 
 ghost use mathlib.Core.Path.{_≡_};
-ghost use Prim.Native.Nat.{_+_, _<_, _≤_, _^_};
-ghost use lib.ListN.{length};
+ghost use mathlib.Core.List.{_++_};
+ghost use Prim.Native.Nat.{_+_, _%_, _<_, _≤_, _^_};
+ghost use lib.ListN.{length, drop};
 ghost use Rattle.words.specs.Word.{_∥_, _+₃₂_, rotl};
-ghost use Rattle.words.specs.Lists.{iter};
-ghost use Rattle.rabbit.specs.Cipher.{g as gOf, counted, gs as gsOf, mixed, part as partOf, next, strm, halfAt, parts8 as parts8Of, parts4 as parts4Of, arranged, loaded, master as masterOf, ivWords, modified, withIv, started, init as initOf};
+ghost use Rattle.words.specs.Strings.{bytesUp};
+ghost use Rattle.keystream.specs.Stream.{Filled};
+ghost use Rattle.rabbit.specs.Cipher.{g as gOf, counted, gs as gsOf, mixed, part as partOf, next, strm, halfAt, parts8 as parts8Of, parts4 as parts4Of, arranged, loaded, master as masterOf, ivWords, modified, withIv, started, init as initOf, unit as unitOf};
+ghost use Rattle.rabbit.specs.Generator.{gen};
 
 // X0..X7, C0..C7 and the carry.
 pub struct Rabbit {
@@ -218,6 +221,17 @@ fn modify(x: [u32; 8], c: [u32; 8], v: [u32; 4]) -> [u32; 8]
     ]
 }
 
+// The bytes of w, least significant first, go to the start of out.
+fn put_up(w: u32, out: &mut [u8])
+    requires { ⌜ 4 ≤ length (now out) ⌝ }
+    ensures { λ _. ⌜ now (out .exit) ≡ bytesUp w ++ drop 4 (now (out .entry)) ⌝ }
+{
+    out[0] = (w % 256) as u8;
+    out[1] = (w / 256 % 256) as u8;
+    out[2] = (w / 65536 % 256) as u8;
+    out[3] = (w / 16777216 % 256) as u8;
+}
+
 impl Rabbit {
     // The state of a key before any step.
     pub fn load(key: &[u8]) -> Rabbit
@@ -270,27 +284,49 @@ impl Rabbit {
         Rabbit { x, c, b: self.b }
     }
 
-    // The state after four steps.
-    fn four(self) -> Rabbit
-        ensures { λ r. ⌜ r ≡ iter 4 next self ⌝ }
+    // The sixteen bytes of keystream of this state go to the start of ks.
+    pub fn unit(self, ks: &mut [u8])
+        requires { ⌜ 16 ≤ length (now ks) ⌝ }
+        ensures { λ _. ⌜ now (ks .exit) ≡ unitOf self ++ drop 16 (now (ks .entry)) ⌝ }
     {
-        self.step().step().step().step()
+        let z = self.output();
+        put_up(z[0], ks);
+        put_up(z[1], &mut ks[4..]);
+        put_up(z[2], &mut ks[8..]);
+        put_up(z[3], &mut ks[12..]);
     }
 
-    // The state that a key keeps for every IV.
+    // ks is filled with keystream, the first byte that of this state; the state that comes back is that of the next unit.
+    pub fn fill(self, ks: &mut [u8]) -> Rabbit
+        requires { ⌜ length (now ks) % 16 ≡ 0 ⌝ }
+        ensures { λ r. ⌜ Filled gen self (length (now (ks .entry))) (now (ks .entry)) r (now (ks .exit)) ⌝ }
+    {
+        let mut s = self;
+        let mut at: usize = 0;
+        while at < ks.len() {
+            s.unit(&mut ks[at..]);
+            s = s.step();
+            at += 16;
+        }
+        s
+    }
+
+    // The state that a key keeps for every IV: four steps, whose bytes are not used.
     pub fn master(key: &[u8]) -> Rabbit
         requires { ⌜ length (now key) ≡ 16 ⌝ }
         ensures { λ r. ⌜ r ≡ masterOf (now (key .entry)) ⌝ }
     {
-        Rabbit::load(key).four()
+        let mut ks = [0u8; 64];
+        Rabbit::load(key).fill(&mut ks)
     }
 
-    // S(0) of a key's state and an IV.
+    // S(0) of a key's state and an IV: five steps, whose bytes are not used.
     pub fn start(self, iv: &[u8]) -> Rabbit
         requires { ⌜ length (now iv) ≡ 8 ⌝ }
         ensures { λ r. ⌜ r ≡ started self (now (iv .entry)) ⌝ }
     {
-        self.add_iv(iv).four().step()
+        let mut ks = [0u8; 80];
+        self.add_iv(iv).fill(&mut ks)
     }
 
     // S(0) of key and IV.

@@ -6,7 +6,7 @@ use Rattle.dispatch.proofs.rabbit_words.crypt.Tie as tie
 use denote.Ref.{now}
 use Rattle.dispatch.proofs.Literals.{fit-of}
 use Rattle.ciphers.specs.Table.{rabbit}
-use Rattle.crypt_rabbit.specs.Generator.{gen as rabbitGen}
+use Rattle.rabbit.specs.Generator.{gen as rabbitGen}
 use Rattle.dispatch.proofs.Along.{rabbit-along, rabbit-carry}
 
 words-requires : tie.Need-words-requires
