@@ -1,17 +1,17 @@
--- The literals of the code: what is a byte at every place is a list of bytes, twenty words, taken element by element, are the state that they hold, and a state's cells, element by element, are its words.
+-- The literals of the code: twenty words, taken element by element, are the state that they hold, and a state's cells, element by element, are its words.
 -- Assumes nothing.
 use mathlib.Core.Path.{_≡_, refl, ap, ap₂, sym}
 use mathlib.Core.Bool.{true}
 use mathlib.Core.List.{List, [], _∷_, _++_}
 use Prim.Native.Nat.{ℕ, suc, _+_, _*_, _/_, _^_}
 use lib.ListN.{length, getD, take, drop}
-use mir.Val.{Val, Fits}
-use mir.Syntax.{w8, w32}
+use mir.Val.{Val}
+use mir.Syntax.{w32}
 use denote.Array.{each}
 use denote.Shadow.{shadow}
 use denote.Plain.{UInt}
 use borrow.Author.Needs.{elem-fits}
-use Rattle.words.specs.Lists.{tab, All, none, more, Byte, Word}
+use Rattle.words.specs.Lists.{tab, All, none, more, Word}
 use Rattle.words.proofs.Registers.{listed}
 use Rattle.zuc.specs.declared.Zuc.{Zuc}
 use Rattle.rabbit.specs.declared.Rabbit.{Rabbit}
@@ -21,17 +21,14 @@ use Rattle.ciphers.specs.Table.{Cipher}
 use Rattle.ciphers.specs.Fit.{Fit}
 use Rattle.ciphers.specs.States.{zucWords, zucState, rabbitWords, rabbitState, snow2Words, snow2State, kcipher2Words, kcipher2State}
 
-pub words-known : (l : List ℕ) → ((i : ℕ) → Fits w32 (getD l i 0)) → All Word l
-words-known [] h = none
-words-known (x ∷ l) h = more (h 0 .fits) (words-known l (λ i. h (suc i)))
+-- what is so at every place is so of all
+pub all-known : (P : ℕ → Type 0) (l : List ℕ) → ((i : ℕ) → P (getD l i 0)) → All P l
+all-known P [] h = none
+all-known P (x ∷ l) h = more (h 0) (all-known P l (λ i. h (suc i)))
 
 -- what a line's words are, as an array of the code
 pub fit-of : (w : List ℕ) {d : Cipher} (us : List Val) → shadow (each ℕ (UInt w32 .own) w us) → length w ≡ 20 → d .admits w ≡ true → Fit d w
-fit-of w us g e h = record { twenty = e; words = words-known w (λ i. elem-fits w32 w32 w us i g tt); admitted = h }
-
-pub bytes-known : (l : List ℕ) → ((i : ℕ) → Fits w8 (getD l i 0)) → All Byte l
-bytes-known [] h = none
-bytes-known (x ∷ l) h = more (h 0 .fits) (bytes-known l (λ i. h (suc i)))
+fit-of w us g e h = record { twenty = e; words = all-known Word w (λ i. elem-fits w32 w32 w us i g tt .fits); admitted = h }
 
 module _ (w : List ℕ) (e : length w ≡ 20) where
   pub zuc-state-is : _≡_ {A = Zuc} (record { a = tab 16 (λ i. getD w i 0); r1 = getD w 16 0; r2 = getD w 17 0 }) (zucState w)

@@ -1,8 +1,10 @@
 -- A call of the plain machine answers 0 or a number of document 01's list from 1 to 13: each row gives its own, and nothing else gives one.
 -- Assumes nothing.
+use mathlib.Core.Path.{_≡_, subst}
 use mathlib.Core.Bool.{Bool, true, false}
-use mathlib.Core.List.{List}
+use mathlib.Core.List.{List, []}
 use Prim.Native.Nat.{ℕ, _≤_}
+use native.Mathlib.Omega.{arith}
 use lib.Dec.{ltb, eqb, lit≤}
 use lib.ListN.{length, getD}
 use Rattle.words.specs.Tests.{pick}
@@ -14,7 +16,7 @@ use Rattle.command.specs.declared.Command.the-variants.{Tray, Own, Crypt, Park,
 use Rattle.command.specs.declared.Decoded.{Decoded}
 use Rattle.command.specs.declared.Decoded.the-variants.{Run, Refused}
 use Rattle.command.specs.Decode.{readOf, lengthOf, withCipher, refusedIf, openOf, cryptOf, commandOf, decodeOf}
-use Rattle.machine.specs.Machine.{MLine, Machine, Public, Call, Effect, refuse, put, crypt, park, refuseIf, effectOf, decided, ofDecoded, decide, public, perform, step}
+use Rattle.machine.specs.Machine.{MLine, Machine, Public, Seen, Shown, Call, Effect, refuse, put, crypt, park, refuseIf, effectOf, decided, ofDecoded, decide, public, answer, perform, step, shows, back, lineCount, allOk, cardStep}
 
 pub data Numbered : Decoded → Type 0 where
   run-numbered : {c : Command} → Numbered (Run c)
@@ -54,6 +56,13 @@ numbered s =
     (either (eqb k 1) _ _ (open-numbered k s)
     (either (eqb k 2) _ _ (open-numbered k s) (either (eqb k 3) _ _ run-numbered (either (eqb k 4) _ _ run-numbered (either (eqb k 5) _ _ run-numbered run-numbered))))))))
 
+-- so a command that is not read is not answered with 0
+pub refusal-told : (s : List ℕ) (k : ℕ) → decodeOf s ≡ Refused k → k ≡ 0 → ⊥
+refusal-told s k e z = by (subst Numbered e (numbered s))
+  where
+    by : Numbered (Refused k) → ⊥
+    by (refusal-numbered g h) = omega arith
+
 row : (b : Bool) (k : ℕ) (e : Effect) → k ≤ 13 → Small e → Small (refuseIf b k e)
 unfolding refuseIf
 row true k e h n = small-refuse h
@@ -91,3 +100,12 @@ performed m text (park i size) h = lit≤ tt
 pub code-small : (m : Machine) (a : Call) → step m a .outcome .code ≤ 13
 unfolding step decide
 code-small m a = performed m (a .text) _ (decoded-small (decodeOf (a .command)) (numbered (a .command)) (public m) a)
+
+-- What is so of 255 with the card as it was, and of the machine's step, is so of the card's.
+pub of-card : (P : Shown → Type 0) (c : Seen) (a : Call) → P (record { outcome = answer 255 0 0 []; card = c }) → P (shows (step (back c) a)) → P (cardStep c a)
+unfolding cardStep
+of-card P c a damaged whole = by (allOk lineCount (c .lines))
+  where
+    by : (b : Bool) → P (pick b (shows (step (back c) a)) (record { outcome = answer 255 0 0 []; card = c }))
+    by true = whole
+    by false = damaged

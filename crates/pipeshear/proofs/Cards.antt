@@ -124,10 +124,6 @@ words-same (suc k) ws n h =
     ∙ ap₂ (λ (x y : List ℕ). x ++ y) (h 0 (omega arith)) (words-same k (drop 24 ws) (rest-length k ws n) (held-rest k ws h))
     ∙ take-append-drop 24 ws
 
-pub card-same : (ws : List ℕ) → length ws ≡ 192 → Held 8 ws → cardWords (cardIn ws) ≡ ws
-unfolding cardIn cardWords
-card-same ws n h = words-same 8 ws n h
-
 -- one of them set
 words-set : (k i : ℕ) (ws : List ℕ) (l : Line) → i < k → length ws ≡ 24 * k → Held k ws →
     linesWords (set (linesIn k ws) i l) ≡ take (24 * i) ws ++ (lineWords l ++ drop 24 (drop (24 * i) ws))

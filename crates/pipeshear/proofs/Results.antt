@@ -1,19 +1,19 @@
 -- What a call leaves, by how it ended: lengths that are wrong, a refusal, which leaves the card's words and three zeros, or an accepted call.
 -- Assumes nothing.
 use mathlib.Core.Path.{_≡_, refl, ap, ap₂, sym, _∙_}
-use mathlib.Core.Bool.{Bool, true, false, not}
+use mathlib.Core.Bool.{Bool, not}
 use mathlib.Core.List.{List, [], _∷_, _++_}
 use Prim.Native.Nat.{ℕ}
 use native.Mathlib.Omega.{arith}
 use lib.Dec.{eqb}
 use lib.ListN.{length, set, drop}
 use lib.Seq.{sets-eq, drop-length}
-use borrow.Author.Tests.{eq-eqb, ne-eqb, eqb-true, eqb-false}
+use borrow.Author.Tests.{eq-eqb, ne-eqb}
 use Rattle.words.specs.Tests.{pick}
-use Rattle.machine.specs.Machine.{Machine, Call, Seen, Shown, Outcome, Effect, refuse, put, crypt, park, answer, perform, step, decide, public, shows, back, allOk, lineCount, cardStep}
+use Rattle.machine.specs.Machine.{Machine, Call, Seen, Shown, Outcome, Effect, refuse, put, crypt, park, perform, step, decide, public, back, cardStep}
+use Rattle.machine.proofs.Codes.{of-card}
 use Rattle.card.specs.declared.Answer.{Answer}
 use Rattle.card.specs.Answer.{seenOf, answerOf, outOf, Answered}
-use Rattle.card.proofs.Laws.{answered}
 use Rattle.pipeshear.specs.Words.{cardIn, cardWords, Result, leaves, shownAs, calledOn, resultOf, Called}
 
 -- ---- a refusal has three zeros
@@ -28,12 +28,8 @@ performed m text (crypt i n size) f = absurd (f refl)
 performed m text (park i size) f = absurd (f refl)
 
 zeros : (c : Seen) (a : Call) → Zeros (cardStep c a .outcome)
-unfolding cardStep step
-zeros c a = either (allOk lineCount (c .lines))
-  where
-    either : (b : Bool) → Zeros ((pick b (shows (step (back c) a)) (record { outcome = answer 255 0 0 []; card = c })) .outcome)
-    either true = performed (back c) (a .text) (decide (public (back c)) a)
-    either false = λ f. (refl, (refl, refl))
+unfolding step
+zeros c a = of-card (λ x. Zeros (x .outcome)) c a (λ f. (refl, (refl, refl))) (performed (back c) (a .text) (decide (public (back c)) a))
 
 -- ---- the counts, stored one by one
 
@@ -69,15 +65,6 @@ module _ (ws : List ℕ) (a : Call) where
         ap (λ (x : Answer). cardWords (x .card)) q
         ∙ ap (λ (b : Bool). pick b (cardWords (record { lines = s .card .lines })) ws) (sym (eq-eqb (s .outcome .code) 0 (sym code-of ∙ e))) in
         λ i. leaves (q i .code) (w i) (h .out-is i) (q i .«used_command») (q i .«used_data») (q i .written)
-
-  -- a refusal of a card whose words it holds, whatever its number
-  pub stood : (k : ℕ) (out' : List ℕ) → Answered (cardIn ws) a (answered (cardIn ws .lines) k 0 0 0) out' → cardWords (cardIn ws) ≡ ws →
-      leaves k ws out' 0 0 0 ≡ calledOn ws a
-  stood k out' h w = by (eqb k 0) refl
-    where
-      by : (b : Bool) → eqb k 0 ≡ b → leaves k ws out' 0 0 0 ≡ calledOn ws a
-      by true e = ap (λ (x : List ℕ). leaves k x out' 0 0 0) (sym w) ∙ accepted (answered (cardIn ws .lines) k 0 0 0) out' h (eqb-true k 0 e)
-      by false e = refused (answered (cardIn ws .lines) k 0 0 0) out' h (eqb-false k 0 e)
 
 -- ---- a call
 

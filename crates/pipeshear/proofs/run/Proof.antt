@@ -9,12 +9,13 @@ use borrow.Author.Tests.{not-true, not-false}
 use Rattle.command.specs.declared.Decoded.the-variants.{Refused}
 use Rattle.command.specs.Decode.{decodeOf}
 use Rattle.command.proofs.Reading.{read-in, run-has}
+use Rattle.machine.proofs.Codes.{refusal-told}
 use Rattle.card.specs.Answer.{callOf, refusalOf, answerOn}
 use Rattle.card.proofs.Laws.{answered, refusal}
 use Rattle.card.proofs.Entry.{answers, damaged}
 use Rattle.pipeshear.specs.Words.{cardIn, leaves}
-use Rattle.pipeshear.proofs.Cards.{line-fits, line-named, card-same, acted, line-put}
-use Rattle.pipeshear.proofs.Results.{refused, accepted, stood}
+use Rattle.pipeshear.proofs.Cards.{line-fits, line-named, acted, line-put}
+use Rattle.pipeshear.proofs.Results.{refused, accepted}
 use borrow.Author.Needs.{needs}
 use Rattle.pipeshear.proofs.run.Statement.{statement}
 use Rattle.pipeshear.proofs.run.Tie as tie
@@ -40,9 +41,8 @@ returns-2 c =
     let n = c .before .refusal-number .ensures ∙ ap refusalOf (c .before .before .enum-told .given .1) in
     let r = answered (cardIn ws .lines) k 0 0 0 in
     rw (c .refused2 .ensures, n)
-    (stood ws a k (a .out)
-    (answers (cardIn ws) a r (a .out) (Refused k) (sym (o .ensures .0) ∙ t) e (refusal (cardIn ws) (a .text) (a .out) k r refl))
-    (card-same ws (s .pre) (o .ensures .1 t)))
+    (refused ws a r (a .out) (answers (cardIn ws) a r (a .out) (Refused k) (sym (o .ensures .0) ∙ t) e (refusal (cardIn ws) (a .text) (a .out) k r refl))
+    (refusal-told (a .command) k e))
 
 sub-read-line : tie.Need-sub-read-line
 sub-read-line c =

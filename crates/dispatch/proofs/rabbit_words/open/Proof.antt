@@ -8,15 +8,16 @@ use Rattle.ciphers.specs.States.{rabbitWords}
 use Rattle.ciphers.specs.Table.{rabbit}
 use Prim.Native.Nat.{_≤_}
 use denote.Ref.{now}
+use Rattle.words.specs.Lists.{Byte}
 use Rattle.rabbit.specs.declared.Rabbit.{Rabbit}
 use Rattle.rabbit.proofs.Ranges.{init-range}
-use Rattle.dispatch.proofs.Literals.{bytes-known}
+use Rattle.dispatch.proofs.Literals.{all-known}
 
 words-requires : tie.Need-words-requires
 words-requires c κs =
     let a = c .before .before .before .args in
-    let key = bytes-known (now (a .key)) (c .before .before .shared-slice-known .given) in
-    let iv = bytes-known (now (a .iv)) (c .before .shared-slice-known2 .given) in
+    let key = all-known Byte (now (a .key)) (λ i. c .before .before .shared-slice-known .given i .fits) in
+    let iv = all-known Byte (now (a .iv)) (λ i. c .before .shared-slice-known2 .given i .fits) in
     subst (λ (s : Rabbit). s .b ≤ 1) (sym (c .init .ensures)) (init-range (now (a .key)) (now (a .iv)) key iv .carry)
 
 returns : tie.Need-returns
