@@ -28,7 +28,7 @@ use Rattle.kcipher2.proofs.Ranges as KL
 use Rattle.crypt_zuc.specs.Generator.{gen as zucGen}
 use Rattle.rabbit.specs.Generator.{gen as rabbitGen}
 use Rattle.crypt_snow2.specs.Generator.{gen as snow2Gen}
-use Rattle.crypt_kcipher2.specs.Generator.{gen as kcipher2Gen}
+use Rattle.kcipher2.specs.Generator.{gen as kcipher2Gen}
 use Rattle.ciphers.specs.States.{zucWords, zucState, rabbitWords, rabbitState, snow2Words, snow2State, kcipher2Words, kcipher2State}
 use Rattle.ciphers.specs.Table.{zuc, rabbit, snow128, kcipher2}
 use Rattle.ciphers.specs.Fit.{Fit}

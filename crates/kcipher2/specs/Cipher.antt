@@ -66,16 +66,19 @@ threeOrNone e w = pick e (times field3 alpha w) w
 unfoldable pub fedB : Kcipher2 → ℕ
 fedB s = oneOrTwo (bit 30 (cellA s 2)) (cellB s 0) ⊕ cellB s 1 ⊕ cellB s 6 ⊕ threeOrNone (bit 31 (cellA s 2)) (cellB s 8)
 
+-- 8.5.3 f): A and B moved, with the words x and y, and the words of the nonlinear part
+abbrev pub moved : Kcipher2 → (x y r1 l1 r2 l2 : ℕ) → Kcipher2
+moved s x y r1 l1 r2 l2 = record { a = shifted (s .a) x; b = shifted (s .b) y; r1 = r1; l1 = l1; r2 = r2; l2 = l2 }
+
 -- 8.5.3 a) to c) and f): the next state, with the words x and y
+abbrev pub right : Kcipher2 → ℕ
+right s = s .l2 +₃₂ cellB s 9
+
+abbrev pub left : Kcipher2 → ℕ
+left s = s .r2 +₃₂ cellB s 4
+
 unfoldable pub clocked : Kcipher2 → ℕ → ℕ → Kcipher2
-clocked s x y = record {
-  a = shifted (s .a) x;
-  b = shifted (s .b) y;
-  r1 = fnT (s .l2 +₃₂ cellB s 9);
-  l1 = fnT (s .r2 +₃₂ cellB s 4);
-  r2 = fnT (s .r1);
-  l2 = fnT (s .l1);
-}
+clocked s x y = moved s x y (fnT (right s)) (fnT (left s)) (fnT (s .r1)) (fnT (s .l1))
 
 -- 8.5.3: Next in null mode, and in INIT mode
 unfoldable pub next : Kcipher2 → Kcipher2

@@ -3,7 +3,7 @@
 use mathlib.Core.Path.{refl}
 use native.Mathlib.Omega.{arith}
 use Rattle.keystream.proofs.Parts.{crypted}
-use Rattle.crypt_kcipher2.specs.Generator.{gen}
+use Rattle.kcipher2.specs.Generator.{gen}
 use borrow.Author.Needs.{needs}
 use Rattle.crypt_kcipher2.proofs.crypt.Statement.{statement}
 use Rattle.crypt_kcipher2.proofs.crypt.Tie as tie

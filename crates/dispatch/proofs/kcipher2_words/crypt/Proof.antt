@@ -6,7 +6,7 @@ use Rattle.dispatch.proofs.kcipher2_words.crypt.Tie as tie
 use denote.Ref.{now}
 use Rattle.dispatch.proofs.Literals.{fit-of}
 use Rattle.ciphers.specs.Table.{kcipher2}
-use Rattle.crypt_kcipher2.specs.Generator.{gen as kcipher2Gen}
+use Rattle.kcipher2.specs.Generator.{gen as kcipher2Gen}
 use Rattle.dispatch.proofs.Along.{kcipher2-along}
 
 returns : tie.Need-returns

@@ -7,10 +7,18 @@ use Rattle.kcipher2.proofs.Kcipher2.clock.Tie as tie
 
 returns : tie.Need-returns
 unfolding clocked
-returns c = cc
+returns c =
+    rw (
+      c .moved .ensures,
+      c .before .sub-word4 .ensures,
+      c .before .before .sub-word3 .ensures,
+      c .before .before .before .sub-word2 .ensures,
+      c .before .before .before .before .left .ensures,
+      c .before .before .before .before .before .sub-word .ensures,
+      c .before .before .before .before .before .before .right .ensures,
+    )
 
 pub clock-spec : {M : Type 1} → statement M
 clock-spec =
-    tie.close (tie.spec (λ c κs. search needs) (λ c κs. search needs) (search needs) (λ c κs. search needs)
-    (search needs) (λ c κs. search needs) (λ c κs. search needs) (λ c κs. search needs) (λ c κs. search needs)
-    (λ c κs. search needs) returns)
+    tie.close (tie.spec (λ c κs. search needs) (λ c κs. search needs) (λ c κs. search needs) (λ c κs. search needs)
+    (λ c κs. search needs) (λ c κs. search needs) (λ c κs. search needs) returns)
