@@ -1,4 +1,4 @@
-// Rabbit over a text: a buffer of keystream to a turn, whole units by `fill`, which has the one call of `step`, and the tail's unit without a step.
+// Rabbit over a text: a buffer of keystream to a turn, whole units by `fill`, and the tail's unit without a step.
 // A caller holds that the place in the unit is one of its sixteen bytes and that the text fits the buffer.
 ghost use mathlib.Core.Path.{_≡_};
 ghost use mathlib.Core.List.{_++_};

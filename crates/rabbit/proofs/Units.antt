@@ -1,4 +1,4 @@
--- The unit of a state in a buffer: the bytes of its four words, each in the part after those before it, which is lent and comes back.
+-- The unit of a state in a buffer: the bytes of its four words, each in the part after those before it, which is lent and comes back; and a step in its parts.
 -- Assumes nothing.
 use mathlib.Core.Path.{_≡_, refl, ap, _∙_}
 use mathlib.Core.List.{List, _++_}
@@ -9,11 +9,18 @@ use lib.ListN.{length, getD, take, drop}
 use Rattle.words.specs.Strings.{bytesUp}
 use Rattle.keystream.proofs.Filling.{part-more}
 use Rattle.rabbit.specs.declared.Rabbit.{Rabbit}
-use Rattle.rabbit.specs.Cipher.{strm, unit}
+use Rattle.rabbit.specs.declared.Counted.{Counted}
+use Rattle.rabbit.specs.Cipher.{counted, gs, mixed, next, strm, unit}
 
 pub unit-length : (s : Rabbit) → length (unit s) ≡ 16
 unfolding unit bytesUp
 unit-length s = refl
+
+-- a step in its parts
+pub stepped : (s : Rabbit) (k : Counted) (g m : List ℕ) → k ≡ counted (s .c) (s .b) → g ≡ gs (s .x) (k .c) → m ≡ mixed g
+    → _≡_ {A = Rabbit} (record { x = m; c = k .c; b = k .b }) (next s)
+unfolding next
+stepped s k g m hk hg hm = rw (hm, hg, hk)
 
 module _ (s : Rabbit) (z ks o1 o2 o3 o4 : List ℕ) where
   abbrev k2 : List ℕ

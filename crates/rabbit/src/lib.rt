@@ -1,5 +1,5 @@
 // Rabbit (ISO/IEC 18033-4, 8.3; Amd 1:2009, 7.3): a state by value, its step, its output, its keystream in a buffer and its start from key and IV.
-// `fill` is the one place that calls `step`, so that it is compiled into its loop. A caller holds the lengths of key and IV, sixteen bytes and eight.
+// A caller holds the lengths of key and IV, sixteen bytes and eight.
 pub mod tables;
 
 ghost use mathlib.Core.Path.{_≡_};
@@ -7,6 +7,7 @@ ghost use mathlib.Core.List.{_++_};
 ghost use Prim.Native.Nat.{_+_, _%_, _<_, _≤_, _^_};
 ghost use lib.ListN.{length, drop};
 ghost use Rattle.words.specs.Word.{_∥_, _+₃₂_, rotl};
+ghost use Rattle.words.specs.Lists.{iter};
 ghost use Rattle.words.specs.Strings.{bytesUp};
 ghost use Rattle.keystream.specs.Stream.{Filled};
 ghost use Rattle.rabbit.specs.Cipher.{g as gOf, counted, gs as gsOf, mixed, part as partOf, next, strm, halfAt, parts8 as parts8Of, parts4 as parts4Of, arranged, loaded, master as masterOf, ivWords, modified, withIv, started, init as initOf, unit as unitOf};
@@ -296,7 +297,8 @@ impl Rabbit {
         put_up(z[3], &mut ks[12..]);
     }
 
-    // ks is filled with keystream, the first byte that of this state; the state that comes back is that of the next unit.
+    // ks is filled with keystream, the first byte that of this state; the state that comes back is that of the next unit. The step is written out in its parts,
+    // since one that is called from several places is not compiled into the loop.
     pub fn fill(self, ks: &mut [u8]) -> Rabbit
         requires { ⌜ length (now ks) % 16 ≡ 0 ⌝ }
         ensures { λ r. ⌜ Filled gen self (length (now (ks .entry))) (now (ks .entry)) r (now (ks .exit)) ⌝ }
@@ -305,28 +307,42 @@ impl Rabbit {
         let mut at: usize = 0;
         while at < ks.len() {
             s.unit(&mut ks[at..]);
-            s = s.step();
+            let x = s.x;
+            let old = s.c;
+            let counted = count(old, s.b);
+            let c = counted.c;
+            let mixed = mix(gs(x, c));
+            s = Rabbit {
+                x: mixed,
+                c,
+                b: counted.b,
+            };
             at += 16;
         }
         s
     }
 
-    // The state that a key keeps for every IV: four steps, whose bytes are not used.
+    // The state after four steps.
+    fn four(self) -> Rabbit
+        ensures { λ r. ⌜ r ≡ iter 4 next self ⌝ }
+    {
+        self.step().step().step().step()
+    }
+
+    // The state that a key keeps for every IV.
     pub fn master(key: &[u8]) -> Rabbit
         requires { ⌜ length (now key) ≡ 16 ⌝ }
         ensures { λ r. ⌜ r ≡ masterOf (now (key .entry)) ⌝ }
     {
-        let mut ks = [0u8; 64];
-        Rabbit::load(key).fill(&mut ks)
+        Rabbit::load(key).four()
     }
 
-    // S(0) of a key's state and an IV: five steps, whose bytes are not used.
+    // S(0) of a key's state and an IV.
     pub fn start(self, iv: &[u8]) -> Rabbit
         requires { ⌜ length (now iv) ≡ 8 ⌝ }
         ensures { λ r. ⌜ r ≡ started self (now (iv .entry)) ⌝ }
     {
-        let mut ks = [0u8; 80];
-        self.add_iv(iv).fill(&mut ks)
+        self.add_iv(iv).four().step()
     }
 
     // S(0) of key and IV.

@@ -7,7 +7,7 @@ use lib.ListN.{length}
 use Rattle.keystream.proofs.Filling.{Filling, filling-start, filling-unit, filling-end}
 use Rattle.keystream.proofs.Parts.{tail-length}
 use Rattle.rabbit.specs.Generator.{gen}
-use Rattle.rabbit.proofs.Units.{unit-length}
+use Rattle.rabbit.proofs.Units.{unit-length, stepped}
 use borrow.Author.Needs.{needs}
 use Rattle.rabbit.proofs.Rabbit.fill.Statement.{statement}
 use Rattle.rabbit.proofs.Rabbit.fill.Tie as tie
@@ -33,7 +33,7 @@ unit-requires c κs =
 
 add-at : tie.Need-add-at Inv-loop μ-loop
 add-at c =
-    let l = c .before .before .before .before .before .before in
+    let l = c .before .before .before .before .before .before .before .before .before .before .before in
     let i = l .loop .inv in
     let h = l .before .before .pre in
     let w = i .whole in
@@ -42,21 +42,22 @@ add-at c =
 
 loop-less : tie.Need-loop-less Inv-loop μ-loop
 loop-less c =
-    let l = c .before .before .before .before .before .before in
+    let l = c .before .before .before .before .before .before .before .before .before .before .before in
     let m = l .loop .inv .same-length in
     omega arith
 
 loop-again : tie.Need-loop-again Inv-loop μ-loop
 unfolding gen
 loop-again c =
-    let p = c .before .before .before in
+    let p = c .before .before .before .before .before .before .before .before in
     let l = p .before .before .before in
     let i = l .loop .inv in
     let h = l .before .before .pre in
     let w = i .whole in
     let m = i .same-length in
     let room : l .loop .at + 16 ≤ length (l .before .before .args .ks .now) = omega arith in
-    filling-unit gen 16 (omega arith) refl i room (unit-length (l .loop .s)) (p .unit .ensures) (c .step .ensures)
+    filling-unit gen 16 (omega arith) refl i room (unit-length (l .loop .s)) (p .unit .ensures)
+    (stepped (l .loop .s) (c .before .before .before .count .result) _ _ (c .before .before .before .count .ensures) (c .before .gs .ensures) (c .mix .ensures))
 
 same-length : tie.Need-same-length Inv-loop μ-loop
 same-length c = c .before .loop .inv .same-length
@@ -73,4 +74,4 @@ returns c =
 pub fill-spec : {M : Type 1} → statement M
 fill-spec =
     tie.close (tie.spec Inv-loop μ-loop loop-holds (λ c. search needs) (λ c. search needs) (λ c. search needs)
-    unit-requires (λ c κs. search needs) add-at loop-less loop-again same-length returns)
+    unit-requires (λ c κs. search needs) (λ c κs. search needs) (λ c κs. search needs) add-at loop-less loop-again same-length returns)

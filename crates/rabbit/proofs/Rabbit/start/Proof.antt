@@ -1,21 +1,14 @@
--- `rabbit::Rabbit::start` meets its contract: eighty bytes are those of five steps from the state with the IV in it on.
+-- `rabbit::Rabbit::start` meets its contract: the state with the IV in it after five steps.
 -- Assumes nothing.
-use mathlib.Core.Path.{ap, _∙_}
-use Rattle.words.specs.Lists.{iter}
-use Rattle.keystream.specs.Stream.{stateAt}
-use Rattle.rabbit.specs.declared.Rabbit.{Rabbit}
-use Rattle.rabbit.specs.Cipher.{next, started}
-use Rattle.rabbit.specs.Generator.{gen}
+use Rattle.rabbit.specs.Cipher.{started}
 use borrow.Author.Needs.{needs}
 use Rattle.rabbit.proofs.Rabbit.start.Statement.{statement}
 use Rattle.rabbit.proofs.Rabbit.start.Tie as tie
 
 returns : tie.Need-returns
-unfolding started gen stateAt iter
-returns c =
-    let f = c .before in
-    f .fill .ensures .state-is ∙ ap (λ (s : Rabbit). iter 5 next s) (f .before .before .add-iv .ensures)
+unfolding started
+returns c = rw (c .step .ensures, c .before .four .ensures, c .before .before .add-iv .ensures)
 
 pub start-spec : {M : Type 1} → statement M
 start-spec =
-    tie.close (tie.spec (λ c κs. search needs) (λ c. search needs) (λ c κs. search needs) returns)
+    tie.close (tie.spec (λ c κs. search needs) (λ c κs. search needs) (λ c κs. search needs) returns)
