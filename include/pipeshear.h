@@ -46,7 +46,7 @@ extern "C" {
  * Where places is not 3 the counts, too, stand as they did.
  *
  * The call keeps nothing and reads nothing but what it is given, so threads may call it at the same time on cards of their own. Two calls on one card must not run at
- * the same time. A call takes some 15 KB of stack. */
+ * the same time. A call takes some 10 KB of stack. */
 uint8_t pipeshear_call(uint32_t *card, size_t card_words,
                        const uint8_t *command, size_t command_bytes,
                        const uint8_t *tray, size_t tray_bytes,
