@@ -59,7 +59,7 @@ bytes-front : (xs ys : List Made) → AllBytes (xs ++ ys) → AllBytes xs
 bytes-front [] ys b = tt
 bytes-front (x ∷ xs) ys b = (b .0, bytes-front xs ys (b .1))
 
-log-append : (i : ℕ) (g : Log) (xs ys : List Made) → logAfter i g (xs ++ ys) ≡ logAfter i (logAfter i g xs) ys
+pub log-append : (i : ℕ) (g : Log) (xs ys : List Made) → logAfter i g (xs ++ ys) ≡ logAfter i (logAfter i g xs) ys
 log-append i g [] ys = refl
 log-append i g (x ∷ xs) ys = log-append i (noted i g (did x)) xs ys
 

@@ -2,18 +2,22 @@
 -- two streams that meet at a byte are joined there.
 -- Assumes nothing.
 use mathlib.Core.Path.{_≡_, refl, ap, ap₂, sym, _∙_, subst}
+use mathlib.Core.Bool.{Bool}
 use mathlib.Core.List.{List, [], _∷_, _++_, append-assoc, append-nil}
 use Prim.Native.Nat.{ℕ, _+_}
 use native.Mathlib.Omega.{arith}
 use lib.ListN.{length}
+use borrow.Author.Tests.{eq-eqb}
+use Rattle.words.specs.Tests.{pick}
 use Rattle.keystream.specs.Stream.{xorFrom}
 use Rattle.keystream.proofs.Laws.{xorFrom-append, xorFrom-agree}
 use Rattle.ciphers.specs.Table.{cipherAt}
 use Rattle.line.specs.declared.Line.{Line}
-use Rattle.machine.specs.Machine.{MLine, Seen, Call, byteOf, moved, imageLine, freshMachine, freshCard}
-use Rattle.machine.specs.Logs.{Made, machineRun, callsOf, cardAfter, lineOn, did, did-open, did-park, did-resume, Log, logOf, standing}
+use Rattle.machine.specs.Machine.{MLine, Seen, Call, byteOf, moved, idle, opened, imageLine, freshMachine, freshCard}
+use Rattle.machine.specs.Logs.{Made, machineRun, callsOf, cardAfter, lineOn, did, did-open, did-park, did-resume, Log, begun, noted, logOf, standing}
 use Rattle.machine.specs.OneStream.{Streamed, GoesOn, On, Stands, OneStream}
 use Rattle.machine.proofs.Deciphers.{given-back}
+use Rattle.machine.proofs.OneStream.{log-append}
 
 -- ---- the same calls, the same answers
 
@@ -76,6 +80,22 @@ resumed-waits xs o s i image d quiet after e a = held-after xs o s i quiet after
 pub heard : (near far : List Made) → OneStream near → OneStream far → (i j : ℕ) → logOf j far .start ≡ logOf i near .start → logOf j far .ins ≡ logOf i near .outs →
     logOf j far .outs ≡ logOf i near .ins
 heard near far s t i j e h = given-back (logOf i near) (logOf j far) _ _ (s .streams i) (t .streams j) e h
+
+-- an open on line i begins its log
+began : (before : List Made) (x : Made) (i c : ℕ) (key iv : List ℕ) → did x ≡ did-open i c key iv → logOf i (before ++ (x ∷ [])) .start ≡ opened c key iv
+began before x i c key iv d =
+    ap (λ (g : Log). g .start)
+    (log-append i (begun idle) before (x ∷ [])
+    ∙ ap (noted i (logOf i before)) d
+    ∙ ap (λ (b : Bool). pick b (begun (opened c key iv)) (logOf i before)) (eq-eqb i i refl))
+
+-- Two ends that were opened with the same cipher number, key and IV, and have begun no other stream since then: what the near end was given is heard at the far end.
+pub both-ends : (near far before before' : List Made) → OneStream near → OneStream far → {x y : Made} → Stands before x near → Stands before' y far →
+    (i j c : ℕ) (key iv : List ℕ) → did x ≡ did-open i c key iv → did y ≡ did-open j c key iv →
+    logOf i near .start ≡ logOf i (before ++ (x ∷ [])) .start → logOf j far .start ≡ logOf j (before' ++ (y ∷ [])) .start →
+    logOf j far .ins ≡ logOf i near .outs → logOf j far .outs ≡ logOf i near .ins
+both-ends near far before before' s t {x = x} {y = y} _ _ i j c key iv dx dy ex ey h =
+    heard near far s t i j (ey ∙ began before' y j c key iv dy ∙ sym (ex ∙ began before x i c key iv dx)) h
 
 -- ---- parked and taken up
 
