@@ -1,5 +1,5 @@
 // The card (document 01, "The card"): eight lines, and the entry that takes a call.
-// A caller holds nothing: any card, command, key tray, data and buffer get an answer.
+// A caller of `call` holds nothing: any card, command, key tray, data and buffer get an answer. One of `act` holds that the line is well formed and the command read.
 ghost use mathlib.Core.Path.{_≡_};
 ghost use mathlib.Core.Bool.{true};
 ghost use mathlib.Core.List.{List, _++_};
