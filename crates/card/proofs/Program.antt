@@ -9,10 +9,10 @@ use Rattle.machine.specs.Logs.{Made, madeOf, machineRun, callsOf}
 use Rattle.machine.specs.OneStream.{AllBytes, OneStream, Counted}
 use Rattle.machine.proofs.Simulation.{AllGood, step-same, step-good, fresh-good}
 use Rattle.machine.proofs.OneStream.{fresh-seen, machine-one-stream, machine-counted}
-use Rattle.card.specs.declared.Card.{Card}
-use Rattle.card.specs.declared.Answer.{Answer}
-use Rattle.card.specs.Answer.{seenOf, answerOf, outOf, Answered}
-use Rattle.card.specs.Ran.{fresh, recorded, Ran, none, call}
+use Rattle.answer.specs.declared.Card.{Card}
+use Rattle.answer.specs.declared.Answer.{Answer}
+use Rattle.answer.specs.Answer.{seenOf, answerOf, outOf, Answered, fresh}
+use Rattle.card.specs.Ran.{recorded, Ran, none, call}
 
 -- what is recorded of a call is what the card's step shows
 recorded-is : (c : Card) (a : Call) (r : Answer) (o : List ℕ) → Answered c a r o → recorded a r o ≡ madeOf a (cardStep (seenOf c) a)

@@ -2,15 +2,11 @@
 -- Assumes nothing.
 use Prim.Native.Nat.{ℕ}
 use mathlib.Core.List.{List, [], _∷_}
-use Rattle.machine.specs.Machine.{Call, freshCard}
+use Rattle.machine.specs.Machine.{Call}
 use Rattle.machine.specs.Logs.{Made}
-use Rattle.card.specs.declared.Card.{Card}
-use Rattle.card.specs.declared.Answer.{Answer}
-use Rattle.card.specs.Answer.{seenOf, Answered}
-
--- all lines idle
-abbrev pub fresh : Card
-fresh = record { lines = freshCard .lines }
+use Rattle.answer.specs.declared.Card.{Card}
+use Rattle.answer.specs.declared.Answer.{Answer}
+use Rattle.answer.specs.Answer.{seenOf, Answered}
 
 -- a call, its answer and out after it
 abbrev pub recorded : Call → Answer → List ℕ → Made

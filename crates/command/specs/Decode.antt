@@ -89,3 +89,8 @@ kindOf (Close i) = 6
 
 abbrev pub sizeOf : Command → ℕ
 sizeOf c = lengthOf (kindOf c)
+
+-- the number of a command that is not read
+abbrev pub refusalOf : Decoded → ℕ
+refusalOf (Run c) = 0
+refusalOf (Refused k) = k

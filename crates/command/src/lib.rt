@@ -3,7 +3,7 @@
 ghost use mathlib.Core.Path.{_≡_};
 ghost use Prim.Native.Nat.{_≤_};
 ghost use lib.ListN.{length};
-ghost use Rattle.command.specs.Decode.{readOf, lengthOf, openOf, cryptOf, commandOf, decodeOf};
+ghost use Rattle.command.specs.Decode.{readOf, lengthOf, openOf, cryptOf, commandOf, decodeOf, lineOf, refusalOf};
 
 pub enum Cipher {
     Zuc,
@@ -145,4 +145,32 @@ pub fn decode(command: &[u8]) -> Decoded
         return Decoded::Refused(1);
     }
     read_command(kind, command)
+}
+
+// The line that a command names.
+pub fn line_of(k: Command) -> u8
+    ensures { λ r. ⌜ r ≡ lineOf k ⌝ }
+{
+    match k {
+        Command::Tray {
+            line,
+            cipher: _,
+            key: _,
+        } => line,
+        Command::Own { line, cipher: _ } => line,
+        Command::Crypt { line, count: _ } => line,
+        Command::Park { line } => line,
+        Command::Resume { line } => line,
+        Command::Close { line } => line,
+    }
+}
+
+// The number of a command that is not read.
+pub fn refusal_number(d: Decoded) -> u8
+    ensures { λ r. ⌜ r ≡ refusalOf d ⌝ }
+{
+    match d {
+        Decoded::Run(_) => 0,
+        Decoded::Refused(k) => k,
+    }
 }

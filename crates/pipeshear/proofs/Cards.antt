@@ -26,10 +26,10 @@ use Rattle.machine.specs.Machine.{Call, lineOk, allOk, lineCount, idleOk, openO
 use Rattle.command.specs.declared.Command.{Command}
 use Rattle.command.specs.declared.Decoded.the-variants.{Run}
 use Rattle.command.specs.Decode.{decodeOf, lineOf}
-use Rattle.card.specs.declared.Acted.{Acted}
-use Rattle.card.specs.Answer.{noLine, lineOn, answerOn, Acts, Answered}
-use Rattle.card.proofs.Laws.{line-ok-at}
-use Rattle.card.proofs.Entry.{acted-on}
+use Rattle.answer.specs.declared.Acted.{Acted}
+use Rattle.answer.specs.Answer.{noLine, lineOn, answerOn, Acts, Answered}
+use Rattle.answer.proofs.Laws.{line-ok-at}
+use Rattle.answer.proofs.Entry.{acted-on}
 use Rattle.pipeshear.specs.Words.{lineIn, linesIn, cardIn, lineWords, linesWords, cardWords, Held}
 
 -- ---- a line and its words

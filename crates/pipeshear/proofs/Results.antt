@@ -2,7 +2,7 @@
 -- Assumes nothing.
 use mathlib.Core.Path.{_≡_, refl, ap, ap₂, sym, _∙_}
 use mathlib.Core.Bool.{Bool, not}
-use mathlib.Core.List.{List, [], _∷_, _++_}
+use mathlib.Core.List.{List, [], _∷_}
 use Prim.Native.Nat.{ℕ}
 use native.Mathlib.Omega.{arith}
 use lib.Dec.{eqb}
@@ -12,8 +12,8 @@ use borrow.Author.Tests.{eq-eqb, ne-eqb}
 use Rattle.words.specs.Tests.{pick}
 use Rattle.machine.specs.Machine.{Machine, Call, Seen, Shown, Outcome, Effect, refuse, put, crypt, park, perform, step, decide, public, back, cardStep}
 use Rattle.machine.proofs.Codes.{of-card}
-use Rattle.card.specs.declared.Answer.{Answer}
-use Rattle.card.specs.Answer.{seenOf, answerOf, outOf, Answered}
+use Rattle.answer.specs.declared.Answer.{Answer}
+use Rattle.answer.specs.Answer.{seenOf, answerOf, Answered}
 use Rattle.pipeshear.specs.Words.{cardIn, cardWords, Result, leaves, shownAs, calledOn, resultOf, Called}
 
 -- ---- a refusal has three zeros

@@ -9,9 +9,9 @@ use lib.ListN.{length, getD, take, drop}
 use Rattle.words.specs.Lists.{tab}
 use Rattle.words.specs.Tests.{pick}
 use Rattle.line.specs.declared.Line.{Line}
-use Rattle.machine.specs.Machine.{Call, Seen, Shown, cardStep}
-use Rattle.card.specs.declared.Card.{Card}
-use Rattle.card.specs.Answer.{seenOf, outOf}
+use Rattle.machine.specs.Machine.{Call, Shown, cardStep}
+use Rattle.answer.specs.declared.Card.{Card}
+use Rattle.answer.specs.Answer.{seenOf, outOf}
 
 -- the line that stands at the start of words; a mode or a cipher over 255 counts as 255, which none has
 unfoldable pub lineIn : List ℕ → Line

@@ -6,13 +6,13 @@ ghost use mathlib.Core.List.{[], _∷_, _++_};
 ghost use Prim.Native.Nat.{_<_, _≤_, _^_, min};
 ghost use lib.ListN.{length, getD, take, drop};
 ghost use Rattle.machine.specs.Machine.{lineOk, allOk, lineCount};
-ghost use Rattle.card.specs.Answer.{callOf};
+ghost use Rattle.answer.specs.Answer.{callOf};
 ghost use Rattle.pipeshear.specs.Words.{lineWords, lineIn, cardIn, Held, leaves, calledOn, Called};
-use card::act;
-use card::line_of;
-use card::refusal_number;
+use acts::act;
 use command::Decoded;
 use command::decode;
+use command::line_of;
+use command::refusal_number;
 use line::Line;
 
 // The words of a line, and those of a card.

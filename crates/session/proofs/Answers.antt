@@ -8,8 +8,8 @@ use borrow.Rule.Slice.PartMut.{putMid}
 use lib.ListN.{length, take, drop, length-append}
 use Rattle.keystream.proofs.Parts.{put-tail, tail-part}
 use Rattle.machine.specs.Machine.{Call, cardStep}
-use Rattle.card.specs.declared.Answer.{Answer}
-use Rattle.card.specs.Answer.{seenOf, callOf, answerOf, outOf, Answered}
+use Rattle.answer.specs.declared.Answer.{Answer}
+use Rattle.answer.specs.Answer.{seenOf, callOf, answerOf, outOf, Answered}
 use Rattle.session.specs.declared.Progress.{Progress}
 use Rattle.session.specs.Session.{made, Behind, rowOf}
 use Rattle.session.specs.Progress.{here, next, Turned}

@@ -6,7 +6,7 @@ use mathlib.Core.List.{List, [], _∷_}
 use Prim.Native.Nat.{ℕ, zero, suc, _≤_}
 use native.Mathlib.Omega.{arith}
 use lib.Dec.{eqb}
-use lib.ListN.{length, take, drop, length-take, length-drop}
+use lib.ListN.{length, take, length-take, length-drop}
 use native.Mathlib.Nat.{min-le-left}
 use borrow.Author.Tests.{eqb-true, eqb-false}
 use Rattle.words.specs.Lists.{All, Byte}
@@ -15,9 +15,9 @@ use Rattle.words.proofs.Ranges.{all-drop}
 use Rattle.machine.specs.Machine.{Call, Seen, cardStep, freshCard}
 use Rattle.machine.specs.Logs.{Made}
 use Rattle.machine.specs.OneStream.{AllBytes, OneStream, Counted}
-use Rattle.card.specs.declared.Card.{Card}
-use Rattle.card.specs.Answer.{seenOf, answerOf, outOf}
-use Rattle.card.specs.Ran.{fresh, Ran, none, call}
+use Rattle.answer.specs.declared.Card.{Card}
+use Rattle.answer.specs.Answer.{seenOf, answerOf, outOf, fresh}
+use Rattle.card.specs.Ran.{Ran, none, call}
 use Rattle.card.proofs.Program.{one-stream, counted}
 use Rattle.session.specs.Session.{made, rest, calls, readLength, lent, session}
 use Rattle.session.proofs.Bounds.{bounded}

@@ -11,7 +11,7 @@ use lib.Dec.{leb}
 use lib.ListN.{length, take, drop, length-append, length-drop}
 use lib.Seq.{length-take-le, take-at, drop-at, drop-drop, take-length, take-all}
 use borrow.Author.Tests.{leb-true, leb-false}
-use Rattle.keystream.proofs.Parts.{put-tail, tail-part, tail-length}
+use Rattle.keystream.proofs.Parts.{put-tail, tail-part}
 use Rattle.decimal.specs.Decimal.{decimal}
 use Rattle.decimal.proofs.Digits.{digits-most}
 use Rattle.session.specs.Session.{Behind, figure, readLength}

@@ -8,8 +8,7 @@ use lib.ListN.{length, take, drop}
 use Rattle.words.specs.Tests.{pick}
 use Rattle.machine.specs.Machine.{Call, freshCard}
 use Rattle.machine.specs.Logs.{Made}
-use Rattle.card.specs.Answer.{seenOf, callOf}
-use Rattle.card.specs.Ran.{fresh}
+use Rattle.answer.specs.Answer.{seenOf, callOf, fresh}
 use Rattle.session.specs.declared.Progress.{Progress}
 use Rattle.session.specs.declared.Ended.{Ended}
 use Rattle.session.specs.Session.{made, calls, readLength, writtenBy, accepted, lastCode, Behind, columns, rowOf, rowsFrom, tableOf}

@@ -6,7 +6,7 @@ ghost use Prim.Native.Nat.{_+_, _≤_, _<_};
 ghost use lib.ListN.{length, take, drop};
 ghost use Rattle.session.specs.Session.{Behind, figure, rowOf, endOf, readLength, session};
 ghost use Rattle.session.specs.Progress.{startOf, acceptedOf, Ready, Turned, Sizes, Finished, Leaves};
-use card::Card;
+use answer::Card;
 
 // Only so many bytes of each file are read.
 pub const READ: usize = 16384;
@@ -115,7 +115,7 @@ fn turn<'a>(
 fn start(table: usize) -> Progress
     ensures { λ r. ⌜ r ≡ startOf table ⌝ }
 {
-    let card = card::fresh();
+    let card = answer::fresh();
     Progress {
         card,
         command: 0,

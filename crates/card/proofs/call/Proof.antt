@@ -8,12 +8,12 @@ use mathlib.Core.Path.{_≡_, refl, ap, sym, _∙_}
 use native.Mathlib.Omega.{arith}
 use lib.ListN.{length, length-map}
 use borrow.Author.Tests.{not-true, not-false}
-use Rattle.command.specs.declared.Decoded.the-variants.{Run, Refused}
-use Rattle.command.specs.Decode.{decodeOf}
+use Rattle.command.specs.declared.Decoded.the-variants.{Refused}
+use Rattle.command.specs.Decode.{decodeOf, refusalOf}
 use Rattle.command.proofs.Reading.{read-in, run-has}
-use Rattle.card.specs.Answer.{callOf, refusalOf}
-use Rattle.card.proofs.Laws.{refusal, answered, line-ok-at}
-use Rattle.card.proofs.Entry.{answers, acted-on, damaged}
+use Rattle.answer.specs.Answer.{callOf}
+use Rattle.answer.proofs.Laws.{refusal, answered, line-ok-at}
+use Rattle.answer.proofs.Entry.{answers, acted-on, damaged}
 
 returns : tie.Need-returns
 returns c =

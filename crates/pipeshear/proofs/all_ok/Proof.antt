@@ -1,6 +1,6 @@
 -- `pipeshear::all_ok` meets its contract: the lines before i are as a call leaves them, and the words hold them.
 -- Assumes nothing.
-use Prim.Native.Nat.{ℕ, _-_, _*_, _≤_}
+use Prim.Native.Nat.{ℕ, _-_, _≤_}
 use mathlib.Core.Path.{_≡_, refl, ap, sym, _∙_}
 use mathlib.Core.Bool.{true}
 use native.Mathlib.Nat.{not-suc-le-zero}

@@ -1,6 +1,6 @@
 -- `pipeshear::pipeshear_call` meets its contract: lengths that are wrong, and what `run` gives, with its counts stored.
 -- Assumes nothing.
-use Rattle.card.specs.Answer.{callOf}
+use Rattle.answer.specs.Answer.{callOf}
 use Rattle.pipeshear.proofs.Results.{wrong-counts, wrong-card, called}
 use borrow.Author.Needs.{needs}
 use Rattle.pipeshear.proofs.pipeshear_call.Statement.{statement}

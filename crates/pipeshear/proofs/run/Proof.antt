@@ -1,18 +1,18 @@
 -- `pipeshear::run` meets its contract: the lines are looked at in their words, and what a command does to its line is what it does to the card that the words hold.
 -- Assumes nothing.
 use Prim.Native.Nat.{ℕ, _*_, _<_, _≤_}
-use mathlib.Core.Path.{_≡_, refl, ap, sym, _∙_}
+use mathlib.Core.Path.{refl, ap, sym, _∙_}
 use mathlib.Core.List.{List}
 use native.Mathlib.Omega.{arith}
 use lib.ListN.{length}
 use borrow.Author.Tests.{not-true, not-false}
 use Rattle.command.specs.declared.Decoded.the-variants.{Refused}
-use Rattle.command.specs.Decode.{decodeOf}
+use Rattle.command.specs.Decode.{decodeOf, refusalOf}
 use Rattle.command.proofs.Reading.{read-in, run-has}
 use Rattle.machine.proofs.Codes.{refusal-told}
-use Rattle.card.specs.Answer.{callOf, refusalOf, answerOn}
-use Rattle.card.proofs.Laws.{answered, refusal}
-use Rattle.card.proofs.Entry.{answers, damaged}
+use Rattle.answer.specs.Answer.{callOf, answerOn}
+use Rattle.answer.proofs.Laws.{answered, refusal}
+use Rattle.answer.proofs.Entry.{answers, damaged}
 use Rattle.pipeshear.specs.Words.{cardIn, leaves}
 use Rattle.pipeshear.proofs.Cards.{line-fits, line-named, acted, line-put}
 use Rattle.pipeshear.proofs.Results.{refused, accepted}

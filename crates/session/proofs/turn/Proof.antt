@@ -1,6 +1,5 @@
 -- `session::turn` meets its contract: the call is lent what is left of the buffers, and its line goes behind those before it.
 -- Assumes nothing.
-use mathlib.Core.Path.{_≡_}
 use Prim.Native.Nat.{_^_, _<_}
 use native.Mathlib.Omega.{arith}
 use lib.ListN.{length, length-drop}
