@@ -19,6 +19,10 @@ use Rattle.answer.specs.Answer.{callOf, Acts}
 found : (l : Line) {k k' : Command} (a : Call) (r : Acted) (o : List ℕ) → k ≡ k' → Acts l k' a r o → Acts l k a r o
 found l a r o e h = subst (λ (x : Command). Acts l x a r o) (sym e) h
 
+-- what the call lends
+abbrev lent : tie.Start → Call
+lent s = callOf (s .args .command .now) (s .args .tray .now) (s .args .«data» .now) (s .args .out .now)
+
 run-tray-requires : tie.Need-run-tray-requires
 unfolding lengthOf
 run-tray-requires c κs =
@@ -45,33 +49,33 @@ run-resume-requires c κs =
 
 returns : tie.Need-returns
 returns c =
-    let a = c .before .before .before .before .before .before .before .before .args in
-    found (a .l) (callOf (a .command .now) (a .tray .now) (a .«data» .now) (a .out .now)) (c .run-tray .result) (a .out .now) (c .before .before .k .given .1) (c .run-tray .ensures _ (a .«data» .now) (a .out .now))
+    let s = c .before .before .before .before .before .before .before .before in
+    found (s .args .l) (lent s) (c .run-tray .result) (s .args .out .now) (c .before .before .k .given .1) (c .run-tray .ensures _ (s .args .«data» .now) (s .args .out .now))
 
 returns-2 : tie.Need-returns-2
 returns-2 c =
-    let a = c .before .before .before .before .before .before .before .before .args in
-    found (a .l) (callOf (a .command .now) (a .tray .now) (a .«data» .now) (a .out .now)) (c .run-own .result) (a .out .now) (c .before .before .k2 .given .1) (c .run-own .ensures _ (a .«data» .now) (a .out .now))
+    let s = c .before .before .before .before .before .before .before .before in
+    found (s .args .l) (lent s) (c .run-own .result) (s .args .out .now) (c .before .before .k2 .given .1) (c .run-own .ensures _ (s .args .«data» .now) (s .args .out .now))
 
 returns-3 : tie.Need-returns-3
 returns-3 c =
-    let a = c .before .before .before .before .before .before .before .before .before .before .before .args in
-    found (a .l) (callOf (a .command .now) (a .tray .now) (a .«data» .now) (a .out .now)) (c .before .before .run-crypt .result) _ (c .before .before .before .before .before .k3 .given .1) (c .before .before .run-crypt .ensures _ (a .command .now) (a .tray .now))
+    let s = c .before .before .before .before .before .before .before .before .before .before .before in
+    found (s .args .l) (lent s) (c .before .before .run-crypt .result) _ (c .before .before .before .before .before .k3 .given .1) (c .before .before .run-crypt .ensures _ (s .args .command .now) (s .args .tray .now))
 
 returns-4 : tie.Need-returns-4
 returns-4 c =
-    let a = c .before .before .before .before .before .before .before .before .before .before .args in
-    found (a .l) (callOf (a .command .now) (a .tray .now) (a .«data» .now) (a .out .now)) (c .before .before .run-park .result) _ (c .before .before .before .before .enum-told .given .1) (c .before .before .run-park .ensures _ (a .command .now) (a .tray .now) (a .«data» .now))
+    let s = c .before .before .before .before .before .before .before .before .before .before in
+    found (s .args .l) (lent s) (c .before .before .run-park .result) _ (c .before .before .before .before .enum-told .given .1) (c .before .before .run-park .ensures _ (s .args .command .now) (s .args .tray .now) (s .args .«data» .now))
 
 returns-5 : tie.Need-returns-5
 returns-5 c =
-    let a = c .before .before .before .before .before .before .before .args in
-    found (a .l) (callOf (a .command .now) (a .tray .now) (a .«data» .now) (a .out .now)) (c .run-resume .result) (a .out .now) (c .before .enum-told2 .given .1) (c .run-resume .ensures _ (a .tray .now) (a .«data» .now) (a .out .now))
+    let s = c .before .before .before .before .before .before .before in
+    found (s .args .l) (lent s) (c .run-resume .result) (s .args .out .now) (c .before .enum-told2 .given .1) (c .run-resume .ensures _ (s .args .tray .now) (s .args .«data» .now) (s .args .out .now))
 
 returns-6 : tie.Need-returns-6
 returns-6 c =
-    let a = c .before .before .before .before .before .before .before .args in
-    found (a .l) (callOf (a .command .now) (a .tray .now) (a .«data» .now) (a .out .now)) (c .run-close .result) (a .out .now) (c .before .enum-told3 .given .1) (c .run-close .ensures _ (callOf (a .command .now) (a .tray .now) (a .«data» .now) (a .out .now)))
+    let s = c .before .before .before .before .before .before .before in
+    found (s .args .l) (lent s) (c .run-close .result) (s .args .out .now) (c .before .enum-told3 .given .1) (c .run-close .ensures _ (lent s))
 
 pub act-spec : {M : Type 1} → statement M
 act-spec =

@@ -1,16 +1,20 @@
 -- `pipeshear::run` meets its contract: the lines are looked at in their words, and what a command does to its line is what it does to the card that the words hold.
 -- Assumes nothing.
 use Prim.Native.Nat.{ℕ, _*_, _<_, _≤_}
-use mathlib.Core.Path.{refl, ap, sym, _∙_}
+use mathlib.Core.Path.{_≡_, refl, ap, sym, _∙_}
+use mathlib.Core.Bool.{true}
 use mathlib.Core.List.{List}
 use native.Mathlib.Omega.{arith}
 use lib.ListN.{length}
 use borrow.Author.Tests.{not-true, not-false}
-use Rattle.command.specs.declared.Decoded.the-variants.{Refused}
+use Rattle.command.specs.declared.Command.{Command}
+use Rattle.command.specs.declared.Decoded.the-variants.{Run, Refused}
 use Rattle.command.specs.Decode.{decodeOf, refusalOf}
 use Rattle.command.proofs.Reading.{read-in, run-has}
+use Rattle.machine.specs.Machine.{Call, allOk, lineOk, lineCount}
 use Rattle.machine.proofs.Codes.{refusal-told}
-use Rattle.answer.specs.Answer.{callOf, answerOn}
+use Rattle.answer.specs.declared.Answer.{Answer}
+use Rattle.answer.specs.Answer.{callOf, lineOn, answerOn, Answered}
 use Rattle.answer.proofs.Laws.{answered, refusal}
 use Rattle.answer.proofs.Entry.{answers, damaged}
 use Rattle.pipeshear.specs.Words.{cardIn, leaves}
@@ -20,139 +24,134 @@ use borrow.Author.Needs.{needs}
 use Rattle.pipeshear.proofs.run.Statement.{statement}
 use Rattle.pipeshear.proofs.run.Tie as tie
 
+-- what the entry is lent
+abbrev lent : tie.Start → Call
+lent s = callOf (s .args .command .now) (s .args .tray .now) (s .args .«data» .now) (s .args .out .now)
+
+-- ---- once all lines are found in order
+
+abbrev begun : tie.Else1 → tie.Start
+begun c = c .before .before .before .before .before .before .before .before
+
+in-order : (c : tie.Else1) → allOk lineCount (cardIn (begun c .args .card .now) .lines) ≡ true
+in-order c = sym (c .before .all-ok .ensures .0) ∙ not-false _ (c .if1 .left)
+
+-- ---- once the command is read and its line named
+
+abbrev sound : tie.After-line-of → tie.Else1
+sound c = c .before .before .before .before .before
+
+abbrev start : tie.After-line-of → tie.Start
+start c = begun (sound c)
+
+abbrev card : tie.After-line-of → List ℕ
+card c = start c .args .card .now
+
+abbrev command : tie.After-line-of → Command
+command c = c .before .before .d .given .0 .0
+
+abbrev index : tie.After-line-of → ℕ
+index c = c .line-of .result
+
+read : (c : tie.After-line-of) → decodeOf (start c .args .command .now) ≡ Run (command c)
+read c = sym (c .before .before .before .before .decode .ensures) ∙ c .before .before .d .given .1
+
+within : (c : tie.After-line-of) → index c < 8
+within c =
+    let m = start c .args .command .now in
+    rw (c .line-of .ensures) (run-has m (decodeOf m) (command c) (read c) (read-in m) .line)
+
+place : (c : tie.After-line-of) → 24 * index c ≤ length (card c)
+place c = omega (arith, within c, start c .pre)
+
+-- ---- once its line is read
+
+abbrev named : tie.After-read-line → tie.After-line-of
+named c = c .before .before .before
+
+held : (c : tie.After-read-line) → (c .read-line .result ≡ lineOn (cardIn (card (named c))) (index (named c))) × (lineOk (c .read-line .result) ≡ true)
+held c = let p = named c in line-named (card p) (index p) (within p) (in-order (sound p)) (c .read-line .ensures .0)
+
+-- ---- once it has acted
+
+abbrev heard : tie.After-act → tie.After-line-of
+heard c = named (c .before .before)
+
+abbrev told : tie.After-act → Answer
+told c = answerOn (cardIn (card (heard c))) (index (heard c)) (c .act .result)
+
+answers-call : (c : tie.After-act) → Answered (cardIn (card (heard c))) (lent (start (heard c))) (told c) (c .act .last .1 .1 .1 .1 .1 .0)
+answers-call c =
+    let p = heard c in
+    acted (card p) (lent (start p)) (command p) (index p) (c .act .result) _ (in-order (sound p)) (read p) (p .line-of .ensures) (within p) (held (c .before .before) .0) (c .act .ensures)
+
+-- ---- what is asked
+
 returns : tie.Need-returns
 returns c =
     let s = c .before .before .before .before .before .before .before .before .before in
     let ws = s .args .card .now in
-    let a = callOf (s .args .command .now) (s .args .tray .now) (s .args .«data» .now) (s .args .out .now) in
     let r = answered (cardIn ws .lines) 255 0 0 0 in
     let no = sym (c .before .before .all-ok .ensures .0) ∙ not-true _ (c .before .if1 .taken) in
-    rw (c .refused .ensures) (refused ws a r (a .out) (damaged (cardIn ws) a r (a .out) no refl refl) (λ z. omega arith))
+    rw (c .refused .ensures) (refused ws (lent s) r (lent s .out) (damaged (cardIn ws) (lent s) r (lent s .out) no refl refl) (λ z. omega arith))
 
 returns-2 : tie.Need-returns-2
 returns-2 c =
-    let s = c .before .before .before .before .before .before .before .before .before .before .before .before .before in
+    let s = begun (c .before .before .before .before .before) in
     let ws = s .args .card .now in
-    let a = callOf (s .args .command .now) (s .args .tray .now) (s .args .«data» .now) (s .args .out .now) in
-    let o = c .before .before .before .before .before .before .all-ok in
-    let t = not-false _ (c .before .before .before .before .before .if1 .left) in
+    let a = lent s in
     let e = sym (c .before .before .before .before .decode .ensures) ∙ c .before .before .enum-told .given .1 in
     let k = c .before .before .enum-told .given .0 .0 in
     let n = c .before .refusal-number .ensures ∙ ap refusalOf (c .before .before .enum-told .given .1) in
     let r = answered (cardIn ws .lines) k 0 0 0 in
     rw (c .refused2 .ensures, n)
-    (refused ws a r (a .out) (answers (cardIn ws) a r (a .out) (Refused k) (sym (o .ensures .0) ∙ t) e (refusal (cardIn ws) (a .text) (a .out) k r refl))
-    (refusal-told (a .command) k e))
+    (refused ws a r (a .out) (answers (cardIn ws) a r (a .out) (Refused k) (in-order (c .before .before .before .before .before)) e (refusal (cardIn ws) (a .text) (a .out) k r refl)) (refusal-told (a .command) k e))
 
 sub-read-line : tie.Need-sub-read-line
-sub-read-line c =
-    let s = c .before .before .before .before .before .before .before .before .before .before .before .before .before in
-    let ws = s .args .card .now in
-    let m = s .args .command .now in
-    let e = sym (c .before .before .before .before .decode .ensures) ∙ c .before .before .d .given .1 in
-    let x = c .line-of in
-    let n : x .result < 8 = rw (x .ensures) (run-has m (decodeOf m) _ e (read-in m) .line) in
-    let h : 24 * x .result ≤ length ws = omega (arith, n, s .pre) in
-    search needs
+sub-read-line c = let h : 24 * index c ≤ length (card c) = place c in search needs
 
 part-read-line-start : tie.Need-part-read-line-start
 part-read-line-start c =
-    let s = c .before .before .before .before .before .before .before .before .before .before .before .before .before .before in
-    let ws = s .args .card .now in
-    let m = s .args .command .now in
-    let e = sym (c .before .before .before .before .before .decode .ensures) ∙ c .before .before .before .d .given .1 in
-    let x = c .before .line-of in
-    let n : x .result < 8 = rw (x .ensures) (run-has m (decodeOf m) _ e (read-in m) .line) in
-    let h : 24 * x .result ≤ length ws = omega (arith, n, s .pre) in
+    let p = c .before in
+    let h : 24 * index p ≤ length (card p) = place p in
     search needs
 
 read-line-requires : tie.Need-read-line-requires
-read-line-requires c κs =
-    let s = c .before .before .before .before .before .before .before .before .before .before .before .before .before .before .before in
-    let ws = s .args .card .now in
-    let m = s .args .command .now in
-    let e = sym (c .before .before .before .before .before .before .decode .ensures) ∙ c .before .before .before .before .d .given .1 in
-    let x = c .before .before .line-of in
-    let n : x .result < 8 = rw (x .ensures) (run-has m (decodeOf m) _ e (read-in m) .line) in
-    line-fits ws (x .result) n (s .pre)
+read-line-requires c κs = let p = c .before .before in line-fits (card p) (index p) (within p) (start p .pre)
 
 act-requires : tie.Need-act-requires
-act-requires c κs =
-    let s = c .before .before .before .before .before .before .before .before .before .before .before .before .before .before .before .before .before in
-    let ws = s .args .card .now in
-    let m = s .args .command .now in
-    let e = sym (c .before .before .before .before .before .before .before .before .decode .ensures) ∙ c .before .before .before .before .before .before .d .given .1 in
-    let x = c .before .before .before .before .line-of in
-    let n : x .result < 8 = rw (x .ensures) (run-has m (decodeOf m) _ e (read-in m) .line) in
-    let o = c .before .before .before .before .before .before .before .before .before .before .all-ok in
-    let t = not-false _ (c .before .before .before .before .before .before .before .before .before .if1 .left) in
-    (line-named ws (x .result) n (sym (o .ensures .0) ∙ t) (c .before .read-line .ensures .0) .1, e)
+act-requires c κs = (held (c .before) .1, read (named (c .before)))
 
 returns-3 : tie.Need-returns-3
 returns-3 c =
-    let s = c .before .before .before .before .before .before .before .before .before .before .before .before .before .before .before .before .before .before .before .before .before .before in
-    let ws = s .args .card .now in
-    let m = s .args .command .now in
-    let e = sym (c .before .before .before .before .before .before .before .before .before .before .before .before .before .decode .ensures) ∙ c .before .before .before .before .before .before .before .before .before .before .before .d .given .1 in
-    let x = c .before .before .before .before .before .before .before .before .before .line-of in
-    let n : x .result < 8 = rw (x .ensures) (run-has m (decodeOf m) _ e (read-in m) .line) in
-    let o = c .before .before .before .before .before .before .before .before .before .before .before .before .before .before .before .all-ok in
-    let t = not-false _ (c .before .before .before .before .before .before .before .before .before .before .before .before .before .before .if1 .left) in
-    let a = callOf (s .args .command .now) (s .args .tray .now) (s .args .«data» .now) (s .args .out .now) in
-    let w = c .before .before .before .before .act in
-    let l = line-named ws (x .result) n (sym (o .ensures .0) ∙ t) (c .before .before .before .before .before .before .read-line .ensures .0) .0 in
-    rw (c .refused3 .ensures)
-    (refused ws a (answerOn (cardIn ws) (x .result) (w .result)) _ (acted ws a _ (x .result) (w .result) _ (sym (o .ensures .0) ∙ t) e (x .ensures) n l (w .ensures)) (c .before .if2 .taken))
+    let w = c .before .before .before .before in
+    let p = heard w in
+    rw (c .refused3 .ensures) (refused (card p) (lent (start p)) (told w) _ (answers-call w) (c .before .if2 .taken))
 
 sub-put-line : tie.Need-sub-put-line
 sub-put-line c =
-    let s = c .before .before .before .before .before .before .before .before .before .before .before .before .before .before .before .before .before .before .before .before .before .before in
-    let ws = s .args .card .now in
-    let m = s .args .command .now in
-    let e = sym (c .before .before .before .before .before .before .before .before .before .before .before .before .before .decode .ensures) ∙ c .before .before .before .before .before .before .before .before .before .before .before .d .given .1 in
-    let x = c .before .before .before .before .before .before .before .before .before .line-of in
-    let n : x .result < 8 = rw (x .ensures) (run-has m (decodeOf m) _ e (read-in m) .line) in
-    let h : 24 * x .result ≤ length ws = omega (arith, n, s .pre) in
+    let p = heard (c .before .before .before .before) in
+    let h : 24 * index p ≤ length (card p) = place p in
     search needs
 
 part-put-line-start : tie.Need-part-put-line-start
 part-put-line-start c =
-    let s = c .before .before .before .before .before .before .before .before .before .before .before .before .before .before .before .before .before .before .before .before .before .before in
-    let ws = s .args .card .now in
-    let m = s .args .command .now in
-    let e = sym (c .before .before .before .before .before .before .before .before .before .before .before .before .before .decode .ensures) ∙ c .before .before .before .before .before .before .before .before .before .before .before .d .given .1 in
-    let x = c .before .before .before .before .before .before .before .before .before .line-of in
-    let n : x .result < 8 = rw (x .ensures) (run-has m (decodeOf m) _ e (read-in m) .line) in
-    let h : 24 * x .result ≤ length ws = omega (arith, n, s .pre) in
+    let p = heard (c .before .before .before .before) in
+    let h : 24 * index p ≤ length (card p) = place p in
     search needs
 
 put-line-requires : tie.Need-put-line-requires
-put-line-requires c κs =
-    let s = c .before .before .before .before .before .before .before .before .before .before .before .before .before .before .before .before .before .before .before .before .before .before .before in
-    let ws = s .args .card .now in
-    let m = s .args .command .now in
-    let e = sym (c .before .before .before .before .before .before .before .before .before .before .before .before .before .before .decode .ensures) ∙ c .before .before .before .before .before .before .before .before .before .before .before .before .d .given .1 in
-    let x = c .before .before .before .before .before .before .before .before .before .before .line-of in
-    let n : x .result < 8 = rw (x .ensures) (run-has m (decodeOf m) _ e (read-in m) .line) in
-    line-fits ws (x .result) n (s .pre)
+put-line-requires c κs = let p = heard (c .before .before .before .before .before) in line-fits (card p) (index p) (within p) (start p .pre)
 
 returns-4 : tie.Need-returns-4
 returns-4 c =
-    let s = c .before .before .before .before .before .before .before .before .before .before .before .before .before .before .before .before .before .before .before .before .before .before .before .before .before .before in
-    let ws = s .args .card .now in
-    let m = s .args .command .now in
-    let e = sym (c .before .before .before .before .before .before .before .before .before .before .before .before .before .before .before .before .before .decode .ensures) ∙ c .before .before .before .before .before .before .before .before .before .before .before .before .before .before .before .d .given .1 in
-    let x = c .before .before .before .before .before .before .before .before .before .before .before .before .before .line-of in
-    let n : x .result < 8 = rw (x .ensures) (run-has m (decodeOf m) _ e (read-in m) .line) in
-    let o = c .before .before .before .before .before .before .before .before .before .before .before .before .before .before .before .before .before .before .before .all-ok in
-    let t = not-false _ (c .before .before .before .before .before .before .before .before .before .before .before .before .before .before .before .before .before .before .if1 .left) in
-    let a = callOf (s .args .command .now) (s .args .tray .now) (s .args .«data» .now) (s .args .out .now) in
-    let w = c .before .before .before .before .before .before .before .before .act in
-    let l = line-named ws (x .result) n (sym (o .ensures .0) ∙ t) (c .before .before .before .before .before .before .before .before .before .before .read-line .ensures .0) .0 in
-    let r = answerOn (cardIn ws) (x .result) (w .result) in
-    ap (λ (y : List ℕ). leaves (r .code) y (w .last .1 .1 .1 .1 .1 .0) (r .«used_command») (r .«used_data») (r .written))
-    (line-put ws _ (x .result) (w .result .line) n (s .pre) (o .ensures .1 t) (c .before .before .put-line .ensures .1))
-    ∙ accepted ws a r _ (acted ws a _ (x .result) (w .result) _ (sym (o .ensures .0) ∙ t) e (x .ensures) n l (w .ensures)) (c .before .before .before .before .before .if2 .left)
+    let w = c .before .before .before .before .before .before .before .before in
+    let p = heard w in
+    let r = told w in
+    let o = sound p in
+    ap (λ (y : List ℕ). leaves (r .code) y (w .act .last .1 .1 .1 .1 .1 .0) (r .«used_command») (r .«used_data») (r .written))
+    (line-put (card p) _ (index p) (w .act .result .line) (within p) (start p .pre) (o .before .all-ok .ensures .1 (not-false _ (o .if1 .left))) (c .before .before .put-line .ensures .1))
+    ∙ accepted (card p) (lent (start p)) r _ (answers-call w) (c .before .before .before .before .before .if2 .left)
 
 pub run-spec : {M : Type 1} → statement M
 run-spec =
