@@ -1,7 +1,7 @@
 -- What the card relies on of every cipher, by number: a unit of at least one byte, states that stay fit from S(0) on, and outputs of u bytes. Each cipher's is
 -- from its own laws, since its words hold a state in range exactly where they are fit.
 -- Assumes nothing.
-use mathlib.Core.Path.{_≡_, refl}
+use mathlib.Core.Path.{_≡_}
 use mathlib.Core.Bool.{Bool, true, false}
 use mathlib.Core.List.{List}
 use Prim.Native.Nat.{ℕ, zero, _<_}

@@ -10,7 +10,7 @@ use lib.Dec.{leb, eqb, lit<}
 use lib.ListN.{length, getD, take, drop, length-append, length-drop}
 use lib.Pow.{shl-shr}
 use lib.Seq.{take-at, drop-at, getD-append-add, length-take-le}
-use borrow.Author.Tests.{le-leb, leb-true, eqb-true, eq-eqb}
+use borrow.Author.Tests.{le-leb, leb-true, eqb-true}
 use Rattle.words.specs.Lists.{All, none, more, Word, tab}
 use Rattle.words.specs.Tests.{both, pick}
 use Rattle.words.proofs.Registers.{listed}

@@ -1,6 +1,6 @@
 -- Document 01's table of ciphers, by number: key and IV bytes, unit, S(0), Next and Strm, and what number 8 asks of a state.
 -- Assumes nothing.
-use mathlib.Core.Bool.{Bool, true, false}
+use mathlib.Core.Bool.{Bool, true}
 use mathlib.Core.List.{List, [], _∷_}
 use Prim.Native.Nat.{ℕ, _-_, _^_}
 use lib.Dec.{leb, eqb}

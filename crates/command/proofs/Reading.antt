@@ -1,6 +1,6 @@
 -- What a command that is read has: a line of the card, which its second byte names, and all its bytes. Each follows from the rows that it passed.
 -- Assumes nothing.
-use mathlib.Core.Path.{_≡_, refl, ap, _∙_, subst}
+use mathlib.Core.Path.{_≡_, refl, subst}
 use mathlib.Core.Bool.{Bool, true, false}
 use mathlib.Core.List.{List}
 use mathlib.Core.Logic.{_⊎_, inl, inr, ⊎-elim}
@@ -14,10 +14,10 @@ use Rattle.command.specs.declared.Cipher.{Cipher}
 use Rattle.command.specs.declared.CipherRead.{CipherRead}
 use Rattle.command.specs.declared.CipherRead.the-variants.{Is, Unknown}
 use Rattle.command.specs.declared.Command.{Command}
-use Rattle.command.specs.declared.Command.the-variants.{Tray, Own, Crypt, Park, Resume, Close}
+use Rattle.command.specs.declared.Command.the-variants.{Park, Resume, Close}
 use Rattle.command.specs.declared.Decoded.{Decoded}
 use Rattle.command.specs.declared.Decoded.the-variants.{Run, Refused}
-use Rattle.command.specs.Decode.{readOf, lengthOf, withCipher, openOf, cryptOf, refusedIf, commandOf, decodeOf, lineOf, kindOf, sizeOf}
+use Rattle.command.specs.Decode.{readOf, lengthOf, withCipher, openOf, cryptOf, refusedIf, commandOf, decodeOf, lineOf, sizeOf}
 
 -- a known kind's command has at least two bytes
 known-or : (b : Bool) {n m : ℕ} → 2 ≤ n → (m ≡ 0) ⊎ (2 ≤ m) → (pick b n m ≡ 0) ⊎ (2 ≤ pick b n m)

@@ -1,11 +1,11 @@
 -- How a command is read: its kind with its operands, or the first of the numbers 1, 2, 1, 3, 4 that applies (document 01, "The card" and "Who meets which number").
 -- Assumes nothing.
-use mathlib.Core.Bool.{Bool, not}
+use mathlib.Core.Bool.{Bool}
 use mathlib.Core.List.{List}
 use Prim.Native.Nat.{ℕ, _+_, _*_}
-use lib.Dec.{ltb, leb, eqb}
+use lib.Dec.{ltb, eqb}
 use lib.ListN.{length, getD}
-use Rattle.words.specs.Tests.{both, pick}
+use Rattle.words.specs.Tests.{pick}
 use Rattle.command.specs.declared.Cipher.{Cipher}
 use Rattle.command.specs.declared.Cipher.the-variants.{Zuc, Rabbit, Snow128, Snow256, Kcipher2}
 use Rattle.command.specs.declared.CipherRead.{CipherRead}

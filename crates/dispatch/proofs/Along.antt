@@ -3,7 +3,7 @@
 -- Assumes nothing.
 use mathlib.Core.Path.{_≡_, refl, ap, sym, subst, _∙_}
 use mathlib.Core.List.{List, _++_}
-use Prim.Native.Nat.{ℕ, _+_, _/_, _<_, _≤_}
+use Prim.Native.Nat.{ℕ, _+_, _/_, _≤_}
 use Rattle.words.proofs.Ranges.{iter-keeps}
 use lib.ListN.{length, drop}
 use Rattle.keystream.specs.Stream.{Gen, stateAt, byteAt, xorFrom}

@@ -1,6 +1,6 @@
 -- The literals of the code: twenty words, taken element by element, are the state that they hold, and a state's cells, element by element, are its words.
 -- Assumes nothing.
-use mathlib.Core.Path.{_≡_, refl, ap, ap₂, sym}
+use mathlib.Core.Path.{_≡_, ap, ap₂, sym}
 use mathlib.Core.Bool.{true}
 use mathlib.Core.List.{List, [], _∷_, _++_}
 use Prim.Native.Nat.{ℕ, suc, _+_, _*_, _/_, _^_}

@@ -4,9 +4,8 @@ use mathlib.Core.List.{List, [], _∷_}
 use Prim.Native.Nat.{ℕ, _-_, _^_}
 use lib.ListN.{replicate}
 use Rattle.command.specs.declared.Cipher.the-variants.{Zuc}
-use Rattle.command.specs.declared.Command.{Command}
 use Rattle.command.specs.declared.Command.the-variants.{Tray, Crypt, Park}
-use Rattle.machine.specs.Machine.{MLine, Public, Call, Effect, refuse, put, crypt, park, decided, noView}
+use Rattle.machine.specs.Machine.{Public, Effect, refuse, put, crypt, park, decided, noView}
 
 pub record Row : Type 0 where
   pub computed : ℕ

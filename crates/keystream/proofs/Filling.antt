@@ -9,12 +9,12 @@ use lib.Seq.{length-take-le, drop-at, take-at, drop-drop, drop-length}
 use lib.Arith.{digits-div, digits-mod}
 use borrow.Rule.Slice.PartMut.{putMid}
 use native.Mathlib.Omega.{arith}
-use native.Mathlib.Nat.{zero-add, add-mod, zero-mod, div-add-mod', mod-self, div-eq-of-lt, div-self, le-of-suc-le-suc, not-suc-le-zero}
+use native.Mathlib.Nat.{zero-add, zero-mod, div-add-mod', mod-self, div-eq-of-lt, div-self, le-of-suc-le-suc, not-suc-le-zero}
 use Rattle.words.specs.Lists.{tab}
 use Rattle.words.proofs.Registers.{listed}
 use Rattle.keystream.specs.Stream.{Gen, stateAt, byteAt, xorFrom, Did, Filled}
 use Rattle.keystream.proofs.Laws.{xorFrom-agree, stateAt-here, stateAt-suc, byteAt-rebase, div-mono}
-use Rattle.keystream.proofs.Parts.{tail-part, put-tail, byteAt-place, state-on, byte-small}
+use Rattle.keystream.proofs.Parts.{tail-part, put-tail, byteAt-place, state-on, byte-small, aligned, whole-more}
 
 -- ---- tables
 
@@ -147,9 +147,6 @@ module _ {S : Type 0} (g : Gen S) (u : ℕ) (pos : zero < u) (unit-is : g .unit 
   unit-pos : zero < g .unit
   unit-pos = omega (arith, unit-is)
 
-  aligned : (x : ℕ) → x % u ≡ 0 → x % g .unit ≡ 0
-  aligned x h = ap (λ (v : ℕ). x % v) unit-is ∙ h
-
   -- a unit, as the code writes it
   pub filled-one : {s s' : S} {before out : List ℕ} → length (g .strm s) ≡ u → out ≡ g .strm s ++ drop u before → s' ≡ g .next s → Filled g s u before s' out
   filled-one {s} {s'} {before} {out} n h e =
@@ -163,10 +160,10 @@ module _ {S : Type 0} (g : Gen S) (u : ℕ) (pos : zero < u) (unit-is : g .unit 
   pub filling-turn : {s cur cur' : S} {before out o' : List ℕ} {at : ℕ} (k : ℕ) → k % u ≡ 0 → Filling g u s before out cur at → at + k ≤ length before
       → Filled g cur k (take (length out - at) (drop at out)) cur' o' → Filling g u s before (putMid at (length out - at) out o') cur' (at + k)
   filling-turn {at = at} k h r fits d =
-      let all = filled-lent g unit-pos fits (aligned at (r .whole)) (r .filled) d in
+      let all = filled-lent g unit-pos fits (aligned unit-is at (r .whole)) (r .filled) d in
       record {
         at-most = fits;
-        whole = add-mod at k u ∙ ap (λ (x : ℕ). (x + k % u) % u) (r .whole) ∙ ap (λ (x : ℕ). (0 + x) % u) h ∙ zero-mod u;
+        whole = whole-more u at k (r .whole) h;
         same-length = filled-length g unit-pos fits all;
         filled = all;
       }
@@ -221,7 +218,7 @@ module _ {S : Type 0} (g : Gen S) (u : ℕ) (pos : zero < u) (unit-is : g .unit 
           → z ≡ g .strm s1 ++ drop u (take (length rest - (n - n % u)) (drop (n - n % u) rest))
           → Ready g s n (length before) s1 (putMid (n - n % u) (length rest - (n - n % u)) rest z)
       ready-tail h room l e =
-          let all = filled-lent g unit-pos room (aligned (n - n % u) (whole-mod n)) first (filled-one {s' = g .next s1} l e refl) in
+          let all = filled-lent g unit-pos room (aligned unit-is (n - n % u) (whole-mod n)) first (filled-one {s' = g .next s1} l e refl) in
           record {
             state-is = state-there;
             size-is = filled-length g unit-pos room all;

@@ -159,6 +159,13 @@ module _ {S : Type 0} (g : Gen S) (pos : zero < g .unit) where
 
 -- ---- the crypt loop, with the unit as the code has it
 
+-- what is a multiple of the code's unit is one of the generator's
+pub aligned : {u v : ℕ} → v ≡ u → (x : ℕ) → x % u ≡ 0 → x % v ≡ 0
+aligned e x h = ap (λ (k : ℕ). x % k) e ∙ h
+
+pub whole-more : (u a k : ℕ) → a % u ≡ 0 → k % u ≡ 0 → (a + k) % u ≡ 0
+whole-more u a k h j = add-mod a k u ∙ ap (λ (x : ℕ). (x + k % u) % u) h ∙ ap (λ (x : ℕ). (0 + x) % u) j ∙ zero-mod u
+
 -- after whole units of text, from the start of a unit on
 pub record Running {S : Type 0} (g : Gen S) (u : ℕ) (s : S) (text out₀ out : List ℕ) (cur : S) (at : ℕ) : Type 0 where
   pub at-most : at ≤ length text
@@ -170,9 +177,6 @@ module _ {S : Type 0} (g : Gen S) (u : ℕ) (pos : zero < u) (unit-is : g .unit 
   unit-pos : zero < g .unit
   unit-pos = omega arith
 
-  aligned : (x : ℕ) → x % u ≡ 0 → x % g .unit ≡ 0
-  aligned x h = ap (λ (v : ℕ). x % v) unit-is ∙ h
-
   module _ {s : S} {text out₀ : List ℕ} (fits : length text ≤ length out₀) where
     pub running-start : Running g u s text out₀ out₀ s 0
     running-start = record { at-most = omega arith; whole = zero-mod u; same-length = refl; did = did-none g unit-pos unit-pos }
@@ -182,10 +186,10 @@ module _ {S : Type 0} (g : Gen S) (u : ℕ) (pos : zero < u) (unit-is : g .unit 
         → Did g 0 cur k (take (length text - at) (drop at text)) (take (length out - at) (drop at out)) cur' o'
         → Running g u s text out₀ (putMid at (length out - at) out o') cur' (at + k)
     running-turn {at = at} k h r q d =
-        let all = did-lent g unit-pos q (omega arith) (aligned (0 + at) (ap (λ (x : ℕ). x % u) (zero-add at) ∙ r .whole)) (r .did) d in
+        let all = did-lent g unit-pos q (omega arith) (aligned unit-is (0 + at) (ap (λ (x : ℕ). x % u) (zero-add at) ∙ r .whole)) (r .did) d in
         record {
           at-most = q;
-          whole = add-mod at k u ∙ ap (λ (x : ℕ). (x + k % u) % u) (r .whole) ∙ ap (λ (x : ℕ). (0 + x) % u) h ∙ zero-mod u;
+          whole = whole-more u at k (r .whole) h;
           same-length = did-length g unit-pos (omega arith) (omega arith) all;
           did = all;
         }
@@ -198,7 +202,7 @@ module _ {S : Type 0} (g : Gen S) (u : ℕ) (pos : zero < u) (unit-is : g .unit 
         let m = r .at-most in
         let sum : at + k ≡ length text = omega arith in
         subst (λ (x : ℕ). Did g 0 s x text out₀ cur' (putMid at (length out - at) out o')) sum
-        (did-lent g unit-pos (omega arith) (omega arith) (aligned (0 + at) (ap (λ (x : ℕ). x % u) (zero-add at) ∙ r .whole)) (r .did) d)
+        (did-lent g unit-pos (omega arith) (omega arith) (aligned unit-is (0 + at) (ap (λ (x : ℕ). x % u) (zero-add at) ∙ r .whole)) (r .did) d)
 
     -- the rest of a begun unit, as far as the text goes, and then the rest of the text
     module _ {n head : ℕ} {s1 s2 : S} {o1 o2 : List ℕ} (n-most : n < u) (head-is : head ≡ min ((u - n) % u) (length text))
@@ -216,7 +220,7 @@ module _ {S : Type 0} (g : Gen S) (u : ℕ) (pos : zero < u) (unit-is : g .unit 
           let full : head ≡ (u - n) % u = omega arith in
           let end : n + (u - n) ≡ u = omega arith in
           did-lent g unit-pos (omega arith) (omega arith)
-          (aligned (n + head) (ap (λ (x : ℕ). (n + x) % u) full ∙ add-mod-mod n (u - n) u ∙ ap (λ (x : ℕ). x % u) end ∙ mod-self u)) first d
+          (aligned unit-is (n + head) (ap (λ (x : ℕ). (n + x) % u) full ∙ add-mod-mod n (u - n) u ∙ ap (λ (x : ℕ). x % u) end ∙ mod-self u)) first d
 
       pub begun : {k : ℕ} → k ≡ length text - head → Did g 0 s1 k (take (length text - head) (drop head text)) (take (length o1 - head) (drop head o1)) s2 o2
           → Did g n s (length text) text out₀ s2 (putMid head (length o1 - head) o1 o2)

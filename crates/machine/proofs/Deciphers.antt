@@ -1,6 +1,6 @@
 -- Deciphering gives back the plaintext: a byte XORed twice with the same byte is itself, so a text enciphered twice from the same line at the same position is itself.
 -- Assumes nothing.
-use mathlib.Core.Path.{_≡_, refl, ap, ap₂, sym, _∙_}
+use mathlib.Core.Path.{_≡_, refl, ap, ap₂, _∙_}
 use mathlib.Core.List.{List, [], _∷_}
 use Prim.Native.Nat.{ℕ, suc}
 use lib.Bits.{xor-self, xor-zero-r}

@@ -14,7 +14,7 @@ use Rattle.command.specs.declared.Command.the-variants.{Tray, Own, Crypt, Park,
 use Rattle.command.specs.declared.Decoded.{Decoded}
 use Rattle.command.specs.declared.Decoded.the-variants.{Run, Refused}
 use Rattle.command.specs.Decode.{decodeOf}
-use Rattle.command.proofs.Reading.{ReadIn, refused-in, run-in, Has, read-in}
+use Rattle.command.proofs.Reading.{ReadIn, run-in, Has, read-in}
 use Rattle.machine.specs.Machine.{Machine, lineAt, idle, shown, based, opened, enciphered, imageOf, imageLine, Call, Effect, refuse, put, crypt, park, public, effectOf, ofDecoded, decide, perform, step, shows}
 use Rattle.machine.specs.Logs.{Made, madeOf, Did, did-nothing, did-open, did-crypt, did-park, did-resume, did-close, doneBy, did}
 use Rattle.machine.proofs.Rows.{Passed, by-rows}

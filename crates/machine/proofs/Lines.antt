@@ -1,25 +1,24 @@
 -- What holds of every line that a list of calls leads to: it is idle, or it has a known cipher, a position of at most 2^36 that is not behind its base, and a base state that fits the cipher.
 -- Then its S(i) fit too, numbers 8 and 255 admit it, and from its position on it has the bytes and states of the line that starts anew from what is seen of it.
 -- Assumes nothing.
-use mathlib.Core.Path.{_≡_, refl, ap, sym, _∙_, subst}
-use mathlib.Core.Bool.{Bool, true, false}
+use mathlib.Core.Path.{_≡_, refl, ap, sym, _∙_}
+use mathlib.Core.Bool.{true}
 use mathlib.Core.List.{List, [], _∷_, map}
-use Prim.Native.Nat.{ℕ, zero, suc, _+_, _-_, _*_, _/_, _%_, _^_, _<_, _≤_}
+use Prim.Native.Nat.{ℕ, zero, suc, _+_, _-_, _*_, _/_, _<_, _≤_}
 use native.Mathlib.Omega.{arith}
-use native.Mathlib.Nat.{div-eq-of-lt}
 use lib.Dec.{leb, eqb}
-use lib.ListN.{length, getD, take, drop, set, replicate}
-use borrow.Author.Tests.{le-leb, leb-true, eqb-true}
-use Rattle.words.specs.Lists.{All, Byte, Word, iter, tab}
+use lib.ListN.{getD}
+use borrow.Author.Tests.{le-leb, leb-true}
+use Rattle.words.specs.Lists.{All, Byte, Word, iter}
 use Rattle.words.specs.Strings.{wordAt}
 use Rattle.words.specs.Tests.{both, pick}
 use Rattle.words.proofs.Ranges.{iter-keeps, all-tab, all-drop, wordAt-word}
 use Rattle.keystream.specs.Stream.{stateAt}
-use Rattle.keystream.proofs.Laws.{stateAt-here, stateAt-rebase, byteAt-rebase, xorFrom-rebase, div-mono}
-use Rattle.ciphers.specs.Table.{Cipher, cipherAt, isCipher, kcipher2}
+use Rattle.keystream.proofs.Laws.{stateAt-here, stateAt-rebase, xorFrom-rebase, div-mono}
+use Rattle.ciphers.specs.Table.{cipherAt, isCipher, kcipher2}
 use Rattle.ciphers.specs.Fit.{Fit}
 use Rattle.ciphers.proofs.Tests.{both-left, both-right, both-true}
-use Rattle.ciphers.proofs.Sound.{Sound, sound}
+use Rattle.ciphers.proofs.Sound.{sound}
 use Rattle.ciphers.proofs.States.{all-take}
 use Rattle.line.specs.declared.Line.{Line}
 use Rattle.machine.specs.Machine.{MLine, idle, idleLine, genOf, genAt, unitAt, stateOf, byteOf, shown, based, enciphered, moved, opened, imageLine, imageIn, limit, openOk, idleOk, lineOk, allOk}

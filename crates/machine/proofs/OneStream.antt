@@ -3,7 +3,7 @@
 use mathlib.Core.Path.{_≡_, refl, ap, ap₂, sym, _∙_, subst}
 use mathlib.Core.Bool.{Bool}
 use mathlib.Core.List.{List, [], _∷_, _++_, append-assoc}
-use Prim.Native.Nat.{ℕ, zero, suc, _+_, _-_, _/_, _≤_, _^_}
+use Prim.Native.Nat.{ℕ, zero, suc, _+_, _-_, _/_, _≤_}
 use native.Mathlib.Nat.{div-eq-of-lt}
 use native.Mathlib.Omega.{arith}
 use lib.Dec.{eqb, lit≤}
@@ -15,7 +15,7 @@ use Rattle.words.specs.Tests.{pick}
 use Rattle.keystream.specs.Stream.{stateAt}
 use Rattle.ciphers.specs.Table.{cipherAt}
 use Rattle.line.specs.declared.Line.{Line}
-use Rattle.machine.specs.Machine.{MLine, Machine, Seen, lineAt, idle, idleLine, genOf, unitAt, stateOf, moved, shown, based, opened, limit, imageOf, imageLine, Call, Effect, refuse, put, crypt, park, public, decide, perform, step, seen, shows, freshMachine, freshCard}
+use Rattle.machine.specs.Machine.{MLine, Machine, Seen, lineAt, idle, genOf, unitAt, stateOf, moved, shown, based, opened, limit, imageOf, imageLine, Call, Effect, refuse, put, crypt, park, public, decide, perform, step, seen, shows, freshMachine, freshCard}
 use Rattle.machine.specs.Logs.{Made, madeOf, machineRun, callsOf, cardAfter, lineOn, Did, did-nothing, did-open, did-crypt, did-park, did-resume, did-close, did, Log, begun, joined, noted, logAfter, logOf, standing}
 use Rattle.machine.specs.OneStream.{AllBytes, Streamed, GoesOn, On, Kept, Stands, OneStream, Takes, Counted}
 use Rattle.machine.proofs.Lines.{unit-pos, Good, good-idle, good-open, good-behind, shown-idle, shown-based, state-fit}

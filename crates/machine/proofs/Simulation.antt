@@ -1,15 +1,13 @@
 -- The card's step is the machine's, for every machine that a list of calls leads to: each effect does the same to a line and to the line that starts anew from what is seen of it, and keeps
 -- every line good.
 -- Assumes nothing.
-use mathlib.Core.Path.{_≡_, refl, ap, ap₂, sym, _∙_, subst}
+use mathlib.Core.Path.{_≡_, refl, ap, ap₂, sym, _∙_}
 use mathlib.Core.Bool.{Bool, true, false, not}
 use mathlib.Core.List.{List, [], _∷_, map}
 use Prim.Native.Nat.{ℕ, zero, suc, _+_, _*_, _≤_}
-use native.Mathlib.Omega.{arith}
-use lib.Dec.{ltb, eqb}
-use lib.ListN.{length, getD, take, drop, set, replicate}
+use lib.Dec.{ltb}
+use lib.ListN.{length, getD, take, set, replicate}
 use borrow.Author.Tests.{ltb-false, eqb-true, not-false}
-use Rattle.words.specs.Lists.{All, Byte}
 use Rattle.words.specs.Tests.{pick}
 use Rattle.words.proofs.Ranges.{all-drop}
 use Rattle.ciphers.specs.Table.{isCipher, cipherAt, kcipher2}
@@ -22,9 +20,9 @@ use Rattle.command.specs.declared.Decoded.{Decoded}
 use Rattle.command.specs.declared.Decoded.the-variants.{Run, Refused}
 use Rattle.command.specs.Decode.{decodeOf, numberOf}
 use Rattle.line.specs.declared.Line.{Line}
-use Rattle.machine.specs.Machine.{MLine, Machine, idle, shown, based, moved, enciphered, imageOf, lineAt, seen, back, lineCount, allOk, View, noView, viewOf, public, viewAt, isOpen, limit, keyIn, ivIn, Call, Effect, refuse, put, crypt, park, effectOf, ofDecoded, decide, answer, perform, step, shows, cardStep, freshMachine}
+use Rattle.machine.specs.Machine.{MLine, Machine, idle, shown, based, moved, enciphered, imageOf, lineAt, seen, back, lineCount, View, noView, viewOf, public, viewAt, isOpen, limit, keyIn, ivIn, Call, Effect, refuse, put, crypt, park, effectOf, ofDecoded, decide, answer, perform, step, shows, cardStep, freshMachine}
 use Rattle.machine.specs.OneStream.{CallBytes}
-use Rattle.machine.proofs.Lines.{Good, good-idle, good-open, shown-idle, shown-based, all-ok, opened-good, resumed-good, moved-same, crypted-same, moved-good, good-behind}
+use Rattle.machine.proofs.Lines.{Good, good-idle, shown-idle, shown-based, all-ok, opened-good, resumed-good, moved-same, crypted-same, moved-good, good-behind}
 use Rattle.machine.proofs.Rows.{Passed, by-rows}
 
 -- ---- every line

@@ -13,7 +13,7 @@ use Rattle.keystream.specs.Stream.{xorFrom}
 use Rattle.keystream.proofs.Laws.{xorFrom-append, xorFrom-agree}
 use Rattle.ciphers.specs.Table.{cipherAt}
 use Rattle.line.specs.declared.Line.{Line}
-use Rattle.machine.specs.Machine.{MLine, Seen, Call, byteOf, moved, idle, opened, imageLine, freshMachine, freshCard}
+use Rattle.machine.specs.Machine.{Seen, byteOf, moved, idle, opened, imageLine, freshMachine, freshCard}
 use Rattle.machine.specs.Logs.{Made, machineRun, callsOf, cardAfter, lineOn, did, did-open, did-park, did-resume, Log, begun, noted, logOf, standing}
 use Rattle.machine.specs.OneStream.{Streamed, GoesOn, On, Stands, OneStream}
 use Rattle.machine.proofs.Deciphers.{given-back}

@@ -12,7 +12,7 @@ use Rattle.words.specs.Strings.{wordAt, bytesOf}
 use Rattle.words.specs.Tests.{both, pick}
 use Rattle.keystream.specs.Stream.{Gen, stateAt, byteAt, xorFrom}
 use Rattle.ciphers.specs.States.{stateWords}
-use Rattle.ciphers.specs.Table.{Cipher, cipherAt, isCipher, allZero}
+use Rattle.ciphers.specs.Table.{cipherAt, isCipher, allZero}
 use Rattle.command.specs.declared.Command.{Command}
 use Rattle.command.specs.declared.Command.the-variants.{Tray, Own, Crypt, Park, Resume, Close}
 use Rattle.command.specs.declared.Decoded.{Decoded}

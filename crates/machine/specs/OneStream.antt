@@ -1,6 +1,6 @@
 -- Demand 3: what is claimed of every list of calls from a fresh card. Each line's joined outputs are its joined inputs XORed with one keystream.
 -- Assumes nothing.
-use Prim.Native.Nat.{ℕ, _+_, _/_, _<_, _≤_}
+use Prim.Native.Nat.{ℕ, _+_, _/_, _≤_}
 use mathlib.Core.List.{List, [], _∷_, _++_}
 use mathlib.Core.Path.{_≡_}
 use lib.ListN.{length, getD}

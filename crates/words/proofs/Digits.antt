@@ -1,7 +1,7 @@
 -- A word and its bytes: the bytes of a word make it again, and a word moved up by a byte has its three lower bytes on top.
 -- Assumes nothing.
 use mathlib.Core.Path.{_≡_}
-use Prim.Native.Nat.{ℕ, _+_, _*_, _/_, _%_, _<_, _^_}
+use Prim.Native.Nat.{ℕ, _+_, _*_, _%_, _^_}
 use native.Mathlib.Omega.{arith}
 use lib.Pow.{mod-pow-add}
 use Rattle.words.specs.Word.{word, b0, b1, b2, b3}

@@ -11,7 +11,7 @@ use lib.Bits.{xor-lt}
 use lib.Dec.{lit<}
 use lib.Pow.{pow-add, pow-pos}
 use lib.ListN.{length, getD, drop, length-append}
-use Rattle.words.specs.Word.{_⊕_, _+₃₂_, word, b0, b1, b2, b3}
+use Rattle.words.specs.Word.{_⊕_, _+₃₂_, word}
 use Rattle.words.specs.Strings.{wordAt, fourAt, bytesOf, bytesUp}
 use Rattle.words.specs.Lists.{All, none, more, tab, shifted, iter, Byte, Word}
 

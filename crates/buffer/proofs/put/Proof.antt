@@ -1,7 +1,6 @@
 -- `buffer::put` meets its contract: the bytes before i stand at the start.
 -- Assumes nothing.
 use Prim.Native.Nat.{_-_, _≤_}
-use mathlib.Core.Path.{_≡_}
 use native.Mathlib.Omega.{arith}
 use lib.ListN.{length, take}
 use Rattle.buffer.proofs.Fronts.{Front, front-none, front-length, front-next, front-all}

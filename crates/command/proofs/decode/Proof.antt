@@ -3,7 +3,7 @@
 use mathlib.Core.Path.{sym, _∙_}
 use native.Mathlib.Omega.{arith}
 use borrow.Author.Tests.{eq-eqb, ne-eqb, lt-ltb, le-ltb}
-use Rattle.command.specs.Decode.{lengthOf, decodeOf}
+use Rattle.command.specs.Decode.{decodeOf}
 use Rattle.command.proofs.Reading.{two-bytes}
 use borrow.Author.Needs.{needs}
 use Rattle.command.proofs.decode.Statement.{statement}
