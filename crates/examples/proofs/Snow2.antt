@@ -1,4 +1,4 @@
--- The first units of annex C.2.1's and C.3.1's first examples, computed from the definitions.
+-- SNOW 2.0: the first units of annex C.2.1's and C.3.1's first examples, computed from the definitions.
 -- Assumes nothing.
 use mathlib.Core.Path.{_≡_, refl}
 use mathlib.Core.List.{List, [], _∷_}

@@ -1,0 +1,4 @@
+pub mod Zuc
+pub mod Rabbit
+pub mod Snow2
+pub mod Kcipher2
