@@ -1,14 +1,17 @@
 -- Products are additive: sums pass through them, in GF(2^8) by induction on the digits of a factor, in GF(2^32) byte by byte. An additive function on
--- words is known by its values at the 32 powers of 2, which is a test that is computed.
+-- words is known by its values at the 32 powers of 2, which is a test that is computed; and the list of its values is made from those at powers of 2.
 -- Assumes nothing.
 use mathlib.Core.Path.{_≡_, refl, ap, ap₂, sym, _∙_, subst}
 use mathlib.Core.Bool.{Bool, true}
+use mathlib.Core.List.{List, [], _∷_, _++_, map}
 use Prim.Native.Nat.{ℕ, zero, suc, _+_, _*_, _/_, _%_, _<_, _^_}
-use native.Mathlib.Nat.{mod-lt, add-zero, not-suc-le-zero, le-of-suc-le-suc, zero-mul, one-mul}
+use native.Mathlib.Nat.{mod-lt, add-zero, zero-add, suc-add, not-suc-le-zero, le-of-suc-le-suc, zero-mul, one-mul}
 use native.Mathlib.Numerals.{one-add}
+use native.Mathlib.Omega.{arith}
 use lib.Arith.{lt-one}
 use lib.Bits.{bitXor, xor-shr, xor-mod, xor-block, xor-lt, xor-zero-r, xor-self, xor-shifted}
 use lib.Dec.{lit<, eqb, eqb→eq, T}
+use lib.ListN.{length, getD, length-append, length-map, List·getD-append}
 use lib.Pow.{pow-pos, split, shr-lt}
 use Rattle.words.specs.Word.{_⊕_, word, b0, b1, b2, b3}
 use Rattle.words.specs.Lists.{Byte}
@@ -175,3 +178,47 @@ module _ (f g : ℕ → ℕ) (hf : Additive f) (hg : Additive g) (h0 : f 0 ≡ g
 
       top : w / 2 ^ n < 2
       top = shr-lt 1 n (subst (λ (x : ℕ). w < 2 ^ x) (sym (one-add n)) h)
+
+-- ---- and so is the list of its values
+
+-- the values of f below 2^n: from half of them on they are those before, and f at the half
+abbrev pub doubled : ℕ → List ℕ → List ℕ
+doubled x l = l ++ map (bitXor x) l
+
+abbrev pub values : (ℕ → ℕ) → ℕ → List ℕ
+values f zero = f 0 ∷ []
+values f (suc n) = doubled (f (2 ^ n)) (values f n)
+
+behind : (l m : List ℕ) (k : ℕ) → getD (l ++ m) (length l + k) 0 ≡ getD m k 0
+behind [] m k = ap (λ (i : ℕ). getD m i 0) (zero-add k)
+behind (x ∷ l) m k = ap (λ (i : ℕ). getD (x ∷ (l ++ m)) i 0) (suc-add (length l) k) ∙ behind l m k
+
+mapped : (g : ℕ → ℕ) (l : List ℕ) (k : ℕ) → k < length l → getD (map g l) k 0 ≡ g (getD l k 0)
+mapped g [] k h = absurd (not-suc-le-zero h)
+mapped g (x ∷ l) zero h = refl
+mapped g (x ∷ l) (suc k) h = mapped g l k (le-of-suc-le-suc h)
+
+values-length : (f : ℕ → ℕ) (n : ℕ) → length (values f n) ≡ 2 ^ n
+values-length f zero = refl
+values-length f (suc n) =
+    length-append (values f n) (map (bitXor (f (2 ^ n))) (values f n))
+    ∙ ap₂ _+_ (values-length f n) (length-map (values f n) (bitXor (f (2 ^ n))) ∙ values-length f n) ∙ omega arith
+
+module _ (f : ℕ → ℕ) (hf : Additive f) where
+  in-half : (n d r : ℕ) → d < 2 → r < 2 ^ n → getD (values f n) r 0 ≡ f r → getD (values f (suc n)) (d * 2 ^ n + r) 0 ≡ f (d * 2 ^ n + r)
+  in-half n zero r hd h e =
+      subst (λ (i : ℕ). getD (values f (suc n)) i 0 ≡ f i) (sym (ap (λ (i : ℕ). i + r) (zero-mul (2 ^ n)) ∙ zero-add r))
+      (List·getD-append (values f n) (map (bitXor (f (2 ^ n))) (values f n)) 0 r (subst (λ (i : ℕ). r < i) (sym (values-length f n)) h) ∙ e)
+  in-half n (suc zero) r hd h e =
+      ap (λ (i : ℕ). getD (values f (suc n)) (i + r) 0) (one-mul (2 ^ n) ∙ sym (values-length f n))
+      ∙ behind (values f n) (map (bitXor (f (2 ^ n))) (values f n)) r
+      ∙ mapped (bitXor (f (2 ^ n))) (values f n) r (subst (λ (i : ℕ). r < i) (sym (values-length f n)) h)
+      ∙ ap₂ bitXor (ap f (sym (one-mul (2 ^ n)))) e ∙ sym (hf (1 * 2 ^ n) r) ∙ ap f (xor-shifted 1 n r h)
+  in-half n (suc (suc d)) r hd h e = absurd (not-suc-le-zero (le-of-suc-le-suc (le-of-suc-le-suc hd)))
+
+  pub value-at : (n k : ℕ) → k < 2 ^ n → getD (values f n) k 0 ≡ f k
+  value-at zero k h = ap (λ (i : ℕ). getD (values f 0) i 0) (lt-one h) ∙ ap f (sym (lt-one h))
+  value-at (suc n) k h =
+      subst (λ (i : ℕ). getD (values f (suc n)) i 0 ≡ f i) (split k n)
+      (in-half n (k / 2 ^ n) (k % 2 ^ n) (shr-lt 1 n (subst (λ (i : ℕ). k < 2 ^ i) (sym (one-add n)) h)) (mod-lt k (pow-pos n))
+      (value-at n (k % 2 ^ n) (mod-lt k (pow-pos n))))

@@ -1,16 +1,18 @@
--- T by one table of 256 words. The S-box is tested against its definition; the table, in each of four rotations, against the S-box's list, one test for
--- each place of a byte; and the four parts add up byte by byte, since the S-box and its products are bytes.
+-- T by one table of 256 words. The S-box is tested against its definition, and the table against the S-box's list; a rotation by whole bytes moves an
+-- entry's bytes to the places that the part from a higher byte has; and the four parts add up byte by byte, since the S-box and its products are bytes.
 -- Assumes nothing.
-use mathlib.Core.Path.{_≡_, ap, ap₂, _∙_, subst}
+use mathlib.Core.Path.{_≡_, refl, ap, ap₂, sym, _∙_, subst}
 use mathlib.Core.Bool.{Bool}
 use Prim.Native.Nat.{ℕ, zero, suc, _+_, _*_, _/_, _%_, _<_, _^_}
+use native.Mathlib.Nat.{add-mul, mul-assoc}
 use native.Mathlib.Omega.{arith}
 use lib.Bits.{bitXor}
 use lib.Dec.{lit<, T}
 use lib.ListN.{getD}
+use lib.Pow.{pow-add, shl-lt, high, low}
 use Rattle.words.specs.Word.{_⊕_, word, rotl, b0, b1, b2, b3}
 use Rattle.words.specs.Lists.{All, Byte, Word}
-use Rattle.words.proofs.Table.{entries, entries-by, all-under}
+use Rattle.words.proofs.Table.{entries, all-under}
 use Rattle.words.proofs.Ranges.{all-at, byte-of, join-word}
 use Rattle.words.proofs.Xor.{byte-xor, word-xor}
 use Rattle.field.specs.Gf8.{mul8}
@@ -44,21 +46,44 @@ turned (suc zero) x = rotl 8 x
 turned (suc (suc zero)) x = rotl 16 x
 turned (suc (suc (suc j))) x = rotl 24 x
 
--- entry k of the table, turned, is the part from SUB[k]: the test reads SUB off its list
-listed : ℕ → ℕ → ℕ
-listed j k = column j (getD subList k 0)
+-- entry k of the table is the part from SUB[k] in the lowest place: the test reads SUB off its list
+listed : ℕ → ℕ
+listed k = column 0 (getD subList k 0)
 
-turned-rule : (j k : ℕ) → j < 4 → k < 2 ^ 8 → turned j (getD columnList k 0) ≡ listed j k
+listed-rule : (k : ℕ) → k < 2 ^ 8 → getD columnList k 0 ≡ listed k
 unfolding listed columnList subList
-turned-rule zero k i h = entries-by (turned 0) (listed 0) columnList tt k h
-turned-rule (suc zero) k i h = entries-by (turned 1) (listed 1) columnList tt k h
-turned-rule (suc (suc zero)) k i h = entries-by (turned 2) (listed 2) columnList tt k h
-turned-rule (suc (suc (suc zero))) k i h = entries-by (turned 3) (listed 3) columnList tt k h
-turned-rule (suc (suc (suc (suc j)))) k i h = absurd (omega arith)
+listed-rule k h = entries listed columnList tt k h
+
+-- m digits and k more, exchanged
+exchanged : (k m h l : ℕ) → l < 2 ^ m → (h * 2 ^ m + l) * 2 ^ k % 2 ^ (m + k) + (h * 2 ^ m + l) / 2 ^ m ≡ l * 2 ^ k + h
+exchanged k m h l i =
+    ap₂ _+_
+    (ap (λ (x : ℕ). x % 2 ^ (m + k))
+    (add-mul (h * 2 ^ m) l (2 ^ k) ∙ ap (λ (x : ℕ). x + l * 2 ^ k) (mul-assoc h (2 ^ m) (2 ^ k) ∙ ap (λ (x : ℕ). h * x) (sym (pow-add 2 m k))))
+    ∙ low h (m + k) (shl-lt m k i)) (high h m i)
+
+-- the part in the lowest place, turned, is the part in place j
+module _ (a b c d : ℕ) (hb : Byte b) (hc : Byte c) (hd : Byte d) where
+  up1 : rotl 8 (word a b c d) ≡ word b c d a
+  up1 = ap (rotl 8) {y = a * 2 ^ 24 + ((b * 2 ^ 8 + c) * 2 ^ 8 + d)} (omega arith) ∙ exchanged 8 24 a ((b * 2 ^ 8 + c) * 2 ^ 8 + d) (omega arith)
+
+  up2 : rotl 16 (word a b c d) ≡ word c d a b
+  up2 =
+      ap (rotl 16) {y = (a * 2 ^ 8 + b) * 2 ^ 16 + (c * 2 ^ 8 + d)} (omega arith) ∙ exchanged 16 16 (a * 2 ^ 8 + b) (c * 2 ^ 8 + d) (omega arith) ∙ omega arith
+
+  up3 : rotl 24 (word a b c d) ≡ word d a b c
+  up3 = exchanged 24 8 ((a * 2 ^ 8 + b) * 2 ^ 8 + c) d hd ∙ omega arith
+
+turned-part : (j s : ℕ) → j < 4 → Byte s → turned j (column 0 s) ≡ column j s
+turned-part zero s i h = refl
+turned-part (suc zero) s i h = up1 (mul8 aes s 3) s s (mul8 aes s 2) h h (mul-byte aes 8 s 2 h)
+turned-part (suc (suc zero)) s i h = up2 (mul8 aes s 3) s s (mul8 aes s 2) h h (mul-byte aes 8 s 2 h)
+turned-part (suc (suc (suc zero))) s i h = up3 (mul8 aes s 3) s s (mul8 aes s 2) h h (mul-byte aes 8 s 2 h)
+turned-part (suc (suc (suc (suc j)))) s i h = absurd (omega arith)
 
 column-rule : (j k : ℕ) → j < 4 → k < 2 ^ 8 → turned j (getD columnList k 0) ≡ column j (sub k)
 unfolding listed
-column-rule j k hj hk = turned-rule j k hj hk ∙ ap (column j) (sub-rule k hk)
+column-rule j k hj hk = ap (turned j) (listed-rule k hk ∙ ap (column 0) (sub-rule k hk)) ∙ turned-part j (sub k) hj (sub-byte k hk)
 
 -- the parts of four bytes add up to mix
 module _ (s t u v : ℕ) (hs : Byte s) (ht : Byte t) (hu : Byte u) (hv : Byte v) where

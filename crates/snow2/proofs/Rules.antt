@@ -1,4 +1,4 @@
--- The tables of SNOW 2.0 hold what they stand for: entry k is the product of k with y^4, and with α^-1, each by one test over the table.
+-- The tables of SNOW 2.0 hold what they stand for: entry k is the product of k with y^4, and with α^-1. Each list is computed from eight products.
 -- Assumes nothing.
 use mathlib.Core.Path.{_≡_, refl}
 use Prim.Native.Nat.{ℕ, _/_, _%_, _^_}
@@ -12,11 +12,11 @@ use Rattle.snow2.specs.Cipher.{field, alphaInv}
 
 pub alpha-rule : Products field (field .y4) alphaList
 unfolding alphaList
-alpha-rule = products field (field .y4) alphaList refl tt
+alpha-rule = products field (field .y4) alphaList refl
 
 pub inverse-rule : Products field alphaInv inverseList
 unfolding inverseList
-inverse-rule = products field alphaInv inverseList refl tt
+inverse-rule = products field alphaInv inverseList refl
 
 -- α^-1 is the inverse of α
 pub inverse-of : times field alpha alphaInv ≡ 1
