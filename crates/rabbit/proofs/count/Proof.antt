@@ -31,6 +31,10 @@ finished : (c next : List ℕ) (b carry i : ℕ) → i ≡ 8 → length c ≡ 8 
 unfolding counted
 finished c next b carry i e l n k = let none : drop 8 c ≡ [] = drop-of-length-le c {i = 8} (omega arith) in rw (n, k, e, none)
 
+-- a turn more leaves fewer to do
+nearer : {i : ℕ} → i < 8 → 8 - (i + 1) < 8 - i
+nearer h = omega arith
+
 abbrev Inv-loop : tie.InvT-loop
 Inv-loop b c a next₀ carry₀ i₀ next carry i = (i ≤ 8) × (next ≡ tab i (counterAt c b) ++ drop i c) × (carry ≡ carryAt c b i)
 
@@ -60,6 +64,6 @@ returns c =
 
 pub count-spec : {M : Type 1} → statement M
 count-spec =
-    tie.close (tie.spec Inv-loop μ-loop (λ c κs. search needs) loop-holds (search needs) (search needs) (search needs)
-    (search needs) (λ c κs. search needs) (search needs) (search needs) (search needs) (search needs) (search needs)
-    (search needs) loop-again returns)
+    tie.close (tie.spec Inv-loop μ-loop (λ c κs. search needs) loop-holds (search needs) (λ c. c .loop-test .taken)
+    (search needs) (λ c. c .loop-test .taken) (λ c κs. search needs) (search needs) (search needs)
+    (λ c. c .before .loop-test .taken) (search needs) (search needs) (λ c. nearer (c .before .loop-test .taken)) loop-again returns)

@@ -7,7 +7,9 @@ use Rattle.rabbit.proofs.Rabbit.add_iv.Tie as tie
 
 returns : tie.Need-returns
 unfolding withIv
-returns c = cc
+returns c =
+    let w = c .before in
+    rw (c .modify .ensures, w .iv-words .ensures, w .before .parts4 .ensures)
 
 pub add-iv-spec : {M : Type 1} → statement M
 add-iv-spec =

@@ -7,7 +7,9 @@ use Rattle.snow2.proofs.Snow2.clock.Tie as tie
 
 returns : tie.Need-returns
 unfolding clocked
-returns c = cc
+returns c =
+    let r1 = c .before in
+    rw (c .sub-word .ensures, r1 .wrapping-add-u32 .ensures, r1 .before .shift16 .ensures)
 
 pub clock-spec : {M : Type 1} → statement M
 clock-spec =

@@ -7,7 +7,10 @@ use Rattle.snow2.proofs.Snow2.load128.Tie as tie
 
 returns : tie.Need-returns
 unfolding loaded128
-returns c = cc
+returns c =
+    let v = c .before in
+    let n = v .before in
+    rw (c .arrange .ensures, v .four-at2 .ensures, n .not4 .ensures, n .before .four-at .ensures)
 
 pub load128-spec : {M : Type 1} → statement M
 load128-spec =

@@ -7,7 +7,11 @@ use Rattle.snow2.proofs.Snow2.load256.Tie as tie
 
 returns : tie.Need-returns
 unfolding loaded256
-returns c = cc
+returns c =
+    let v = c .before in
+    let n = v .before in
+    let l = n .before .before in
+    rw (c .arrange .ensures, v .four-at3 .ensures, n .not42 .ensures, n .before .not4 .ensures, l .four-at2 .ensures, l .before .four-at .ensures)
 
 pub load256-spec : {M : Type 1} → statement M
 load256-spec =

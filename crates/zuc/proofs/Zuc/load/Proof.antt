@@ -2,7 +2,7 @@
 -- Assumes nothing.
 use mathlib.Core.Path.{_≡_, refl}
 use mathlib.Core.List.{_++_}
-use Prim.Native.Nat.{_-_, _≤_}
+use Prim.Native.Nat.{ℕ, _+_, _-_, _<_, _≤_}
 use native.Mathlib.Omega.{arith}
 use lib.ListN.{drop, replicate}
 use denote.Ref.{now}
@@ -18,6 +18,10 @@ Inv-loop key iv d a₀ i₀ a i = (i ≤ 16) × (a ≡ tab i (loadedCell key iv)
 
 abbrev μ-loop : tie.MeasureT-loop
 μ-loop key iv d a₀ i₀ a i = 16 - i
+
+-- a turn more leaves fewer to do
+nearer : {i : ℕ} → i < 16 → 16 - (i + 1) < 16 - i
+nearer h = omega arith
 
 loop-holds : tie.Need-loop-holds Inv-loop μ-loop
 loop-holds c = (search needs, refl)
@@ -37,6 +41,6 @@ returns c = let e : c .before .loop .i ≡ 16 = omega arith in rw (c .before .lo
 
 pub load-spec : {M : Type 1} → statement M
 load-spec =
-    tie.close (tie.spec Inv-loop μ-loop (λ c κs. search needs) loop-holds (search needs) (search needs) (search needs)
-    (search needs) (λ c κs. search needs) (search needs) (search needs) (search needs) (search needs) loop-again
-    returns)
+    tie.close (tie.spec Inv-loop μ-loop (λ c κs. search needs) loop-holds (search needs) (search needs)
+    (λ c. c .before .loop-test .taken) (search needs) (λ c κs. search needs) (search needs)
+    (λ c. c .before .before .before .loop-test .taken) (search needs) (λ c. nearer (c .before .before .before .loop-test .taken)) loop-again returns)
