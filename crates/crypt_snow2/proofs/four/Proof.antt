@@ -1,9 +1,6 @@
 -- `crypt_snow2::four` meets its contract: each unit goes on where the one before it ended.
 -- Assumes nothing.
-use mathlib.Core.Path.{refl}
-use native.Mathlib.Omega.{arith}
-use Rattle.keystream.proofs.Parts.{did-lent}
-use Rattle.crypt_snow2.specs.Generator.{gen}
+use Rattle.crypt_snow2.proofs.Units.{fourth, did-four, four-length}
 use borrow.Author.Needs.{needs}
 use Rattle.crypt_snow2.proofs.four.Statement.{statement}
 use Rattle.crypt_snow2.proofs.four.Tie as tie
@@ -30,23 +27,29 @@ part-unit-start-6 c =
 
 unit-requires-4 : tie.Need-unit-requires-4
 unit-requires-4 c κs =
-    let p = c .before .before .before .before .before .before .before .before in
-    let k = p .before .before .before .before .before .before .before .before .before .before .pre in
-    (k .0, (omega arith, omega arith))
+    let p3 = c .before .before .before .before in
+    let p2 = p3 .before .before .before .before .before in
+    let p1 = p2 .before .before .before .before .before in
+    let k = p1 .before .before .before .before .pre in
+    (k .0, fourth (k .1 .0) (k .1 .1) (p1 .unit .ensures) (p2 .unit2 .ensures) (p3 .unit3 .ensures))
+
+same-length : tie.Need-same-length
+same-length c =
+    let p4 = c .before .before in
+    let p3 = p4 .before .before .before .before .before in
+    let p2 = p3 .before .before .before .before .before in
+    let p1 = p2 .before .before .before .before .before in
+    let h = p1 .before .before .before .before .pre .1 in
+    four-length (h .0) (h .1) (p1 .unit .ensures) (p2 .unit2 .ensures) (p3 .unit3 .ensures) (p4 .unit4 .ensures)
 
 returns : tie.Need-returns
-unfolding gen
 returns c =
     let p4 = c .before .before in
     let p3 = p4 .before .before .before .before .before in
     let p2 = p3 .before .before .before .before .before in
     let p1 = p2 .before .before .before .before .before in
     let h = p1 .before .before .before .before .pre .1 in
-    did-lent gen (omega arith) (h .0) (h .1) refl
-    (did-lent gen (omega arith) (omega arith) (omega arith) refl
-    (did-lent gen (omega arith) (omega arith) (omega arith) refl (p1 .unit .ensures) (p2 .unit2 .ensures))
-    (p3 .unit3 .ensures))
-    (p4 .unit4 .ensures)
+    did-four (h .0) (h .1) (p1 .unit .ensures) (p2 .unit2 .ensures) (p3 .unit3 .ensures) (p4 .unit4 .ensures)
 
 pub four-spec : {M : Type 1} → statement M
 four-spec =
@@ -54,4 +57,4 @@ four-spec =
     (λ c. search needs) (λ c. search needs) (λ c. search needs) (λ c κs. search needs) (λ c. search needs)
     (λ c. search needs) (λ c. search needs) (λ c. search needs) (λ c. search needs) (λ c. search needs)
     (λ c κs. search needs) sub-unit-5 part-unit-start-5 (λ c. search needs) sub-unit-6 part-unit-start-6
-    (λ c. search needs) unit-requires-4 (λ c. search needs) returns)
+    (λ c. search needs) unit-requires-4 same-length returns)
