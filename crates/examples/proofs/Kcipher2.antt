@@ -1,8 +1,7 @@
 -- KCipher-2: the first unit of annex C.6.1's first example, computed from the definitions.
 -- Assumes nothing.
 use mathlib.Core.Path.{_≡_, refl}
-use mathlib.Core.List.{List, [], _∷_}
-use Prim.Native.Nat.{ℕ}
+use mathlib.Core.List.{[], _∷_}
 use lib.ListN.{replicate}
 use Rattle.words.specs.Strings.{wordAt, fourAt, bytesOf}
 use Rattle.words.specs.Lists.{shifted, iter}

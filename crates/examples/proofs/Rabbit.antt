@@ -1,8 +1,7 @@
 -- Rabbit: the first unit of annex C.4.2's fourth example, whose key and IV differ in every byte, computed from the definitions.
 -- Assumes nothing.
 use mathlib.Core.Path.{_≡_, refl}
-use mathlib.Core.List.{List, [], _∷_}
-use Prim.Native.Nat.{ℕ}
+use mathlib.Core.List.{[], _∷_}
 use Rattle.words.specs.Strings.{bytesUp}
 use Rattle.words.specs.Lists.{tab, iter}
 use Rattle.rabbit.specs.Tables.{aList}

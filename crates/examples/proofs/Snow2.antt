@@ -1,8 +1,7 @@
 -- SNOW 2.0: the first units of annex C.2.1's and C.3.1's first examples, computed from the definitions.
 -- Assumes nothing.
 use mathlib.Core.Path.{_≡_, refl}
-use mathlib.Core.List.{List, [], _∷_}
-use Prim.Native.Nat.{ℕ}
+use mathlib.Core.List.{[], _∷_}
 use lib.ListN.{replicate}
 use Rattle.words.specs.Strings.{wordAt, fourAt, bytesOf}
 use Rattle.words.specs.Lists.{shifted, iter}

@@ -2,12 +2,11 @@
 -- entry's bytes to the places that the part from a higher byte has; and the four parts add up byte by byte, since the S-box and its products are bytes.
 -- Assumes nothing.
 use mathlib.Core.Path.{_≡_, refl, ap, ap₂, sym, _∙_, subst}
-use mathlib.Core.Bool.{Bool}
 use Prim.Native.Nat.{ℕ, zero, suc, _+_, _*_, _/_, _%_, _<_, _^_}
 use native.Mathlib.Nat.{add-mul, mul-assoc}
 use native.Mathlib.Omega.{arith}
 use lib.Bits.{bitXor}
-use lib.Dec.{lit<, T}
+use lib.Dec.{lit<}
 use lib.ListN.{getD}
 use lib.Pow.{pow-add, shl-lt, high, low}
 use Rattle.words.specs.Word.{_⊕_, word, rotl, b0, b1, b2, b3}

@@ -1,19 +1,18 @@
 -- Products with the element α and with an inverse of it, by table. α w is w moved up by a byte, with what its highest byte times y^4 is; and since the
 -- product with a fixed v is additive, that it is w moved down by a byte, with what its lowest byte times v is, is a test at the powers of 2.
 -- Assumes nothing.
-use mathlib.Core.Path.{_≡_, refl, ap, ap₂, sym, _∙_}
+use mathlib.Core.Path.{_≡_, ap, ap₂, sym, _∙_}
 use mathlib.Core.Bool.{Bool}
 use mathlib.Core.List.{List}
-use Prim.Native.Nat.{ℕ, _+_, _*_, _/_, _%_, _<_, _^_}
+use Prim.Native.Nat.{ℕ, _*_, _/_, _%_, _<_, _^_}
 use native.Mathlib.Omega.{arith}
 use lib.Bits.{bitXor, xor-shr, xor-zero-r}
 use lib.Dec.{T}
 use lib.ListN.{getD}
-use Rattle.words.specs.Word.{_⊕_, word, b0, b1, b2, b3}
+use Rattle.words.specs.Word.{_⊕_, b0, b1, b2, b3}
 use Rattle.words.specs.Lists.{Word}
 use Rattle.words.proofs.Digits.{word-bytes, moved-up}
 use Rattle.words.proofs.Ranges.{byte-of, join-word, xor-word}
-use Rattle.field.specs.Gf8.{mul8}
 use Rattle.field.specs.Gf32.{Field, scale, timesY, times, alpha, Products}
 use Rattle.field.proofs.Additive.{Additive, sum-of, then-of, b0-sum, scale-sum-r, times-sum, mul-byte, agree, extend, values, value-at}
 

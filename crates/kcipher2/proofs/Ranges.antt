@@ -2,11 +2,11 @@
 -- Assumes nothing.
 use mathlib.Core.Path.{_≡_, refl}
 use mathlib.Core.List.{List}
-use Prim.Native.Nat.{ℕ, zero, suc, _+_, _^_, _<_}
+use Prim.Native.Nat.{ℕ, zero, suc, _+_, _<_}
 use lib.Dec.{lit<}
 use lib.ListN.{length, getD}
 use Rattle.words.specs.Word.{_⊕_, _+₃₂_, rotl, bit}
-use Rattle.words.specs.Strings.{fourAt, bytesOf}
+use Rattle.words.specs.Strings.{bytesOf}
 use Rattle.words.specs.Lists.{All, none, more, Byte, Word}
 use Rattle.words.proofs.Ranges.{at-word, all-append, all-shifted, length-shifted, iter-keeps, xor-word, add-word, fourAt-words, bytesOf-bytes}
 use Rattle.field.specs.Gf32.{alpha}

@@ -1,7 +1,7 @@
 -- The tables of KCipher-2 hold what they stand for: entry k is the product of k with y^4 in the table's own field. Each list is computed from eight products.
 -- Assumes nothing.
 use mathlib.Core.Path.{refl}
-use Rattle.field.specs.Gf32.{Field, Products}
+use Rattle.field.specs.Gf32.{Products}
 use Rattle.field.proofs.Elements.{products}
 use Rattle.kcipher2.specs.Tables.{alpha0List, alpha1List, alpha2List, alpha3List}
 use Rattle.kcipher2.specs.Cipher.{field0, field1, field2, field3}

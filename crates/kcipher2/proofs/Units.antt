@@ -1,7 +1,7 @@
 -- Units of keystream in a buffer: the bytes of two words, four units with the steps between them, and a buffer that is filled in two parts. Each part is lent
 -- from the end of what is written and comes back.
 -- Assumes nothing.
-use mathlib.Core.Path.{_≡_, refl, ap, sym, _∙_, subst}
+use mathlib.Core.Path.{_≡_, refl, ap, _∙_, subst}
 use mathlib.Core.List.{List, _++_}
 use Prim.Native.Nat.{ℕ, _+_, _-_, _%_, _≤_}
 use native.Mathlib.Omega.{arith}

@@ -3,12 +3,12 @@
 -- Assumes nothing.
 use mathlib.Core.Path.{_≡_, refl}
 use mathlib.Core.List.{List}
-use Prim.Native.Nat.{ℕ, zero, suc, _+_, _*_, _/_, _%_, _^_, _<_, _≤_}
+use Prim.Native.Nat.{ℕ, zero, suc, _+_, _*_, _%_, _^_, _<_, _≤_}
 use native.Mathlib.Nat.{mod-lt}
 use native.Mathlib.Omega.{arith}
 use lib.Dec.{lit<, lit≤}
 use lib.ListN.{length, getD}
-use Rattle.words.specs.Word.{_∥_, _+₃₂_, rotl}
+use Rattle.words.specs.Word.{_∥_, rotl}
 use Rattle.words.specs.Strings.{bytesUp}
 use Rattle.words.specs.Lists.{All, none, more, Byte, Word}
 use Rattle.words.proofs.Table.{all-under}

@@ -5,7 +5,7 @@ use Prim.Native.Nat.{ℕ, _/_, _%_, _^_}
 use lib.ListN.{getD}
 use Rattle.words.specs.Word.{_⊕_}
 use Rattle.words.specs.Lists.{Word}
-use Rattle.field.specs.Gf32.{Field, Products, times, timesY, alpha}
+use Rattle.field.specs.Gf32.{Products, times, timesY, alpha}
 use Rattle.field.proofs.Elements.{products, inverse-by}
 use Rattle.snow2.specs.Tables.{alphaList, inverseList}
 use Rattle.snow2.specs.Cipher.{field, alphaInv}

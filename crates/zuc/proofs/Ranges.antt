@@ -3,19 +3,19 @@
 -- Assumes nothing.
 use mathlib.Core.Path.{_≡_, refl}
 use mathlib.Core.List.{List}
-use Prim.Native.Nat.{ℕ, zero, suc, _+_, _*_, _/_, _%_, _-_, _^_, _<_, _≤_}
+use Prim.Native.Nat.{ℕ, zero, suc, _-_, _^_, _<_, _≤_}
 use native.Mathlib.Nat.{mod-lt}
 use native.Mathlib.Omega.{arith}
 use lib.Dec.{T, lit<, lit≤, ltb, leb, ltb→lt, leb→le}
-use lib.ListN.{length, getD}
+use lib.ListN.{length}
 use Rattle.words.specs.Word.{b0, b1, b2, b3}
 use Rattle.words.specs.Strings.{bytesOf}
-use Rattle.words.specs.Lists.{All, Byte, Word, tab}
+use Rattle.words.specs.Lists.{All, Byte, Word}
 use Rattle.words.specs.Tests.{both}
 use Rattle.words.proofs.Table.{both-left, both-right, all-pass, all-under}
 use Rattle.words.proofs.Ranges.{at-byte, all-in, all-tab, all-shifted, length-shifted, iter-keeps, join-word, bytesOf-bytes}
 use Rattle.zuc.specs.Tables.{sub1, sub2, d}
-use Rattle.zuc.specs.Cipher.{ss, nextR1, nextR2, w, v, weighed, mended, fed, fedInit, clocked, next, nextInit, strm, loaded, loadedCell, init, unit, u}
+use Rattle.zuc.specs.Cipher.{ss, nextR1, nextR2, v, weighed, mended, fed, fedInit, clocked, next, nextInit, strm, loaded, loadedCell, init, unit, u}
 use Rattle.zuc.specs.Range.{Cell, InRange}
 use Rattle.zuc.specs.declared.Zuc.{Zuc}
 

@@ -1,6 +1,6 @@
 -- `rabbit::g` meets its contract: the square of a word has 64 bits, and its halves have 32 each.
 -- Assumes nothing.
-use mathlib.Core.Path.{_≡_, ap}
+use mathlib.Core.Path.{ap}
 use Prim.Native.Nat.{ℕ, _*_, _<_, _^_}
 use native.Mathlib.Omega.{arith}
 use lib.Pow.{shr-lt}
