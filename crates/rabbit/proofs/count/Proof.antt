@@ -1,6 +1,5 @@
 -- `rabbit::count` meets its contract. The loop's invariant: the first i counters are those after the step, and the carry is the one into counter i.
 -- Assumes nothing.
--- one counter more
 use mathlib.Core.Path.{_≡_, refl, _∙_}
 use mathlib.Core.List.{List, [], _++_}
 use Prim.Native.Nat.{ℕ, _+_, _-_, _/_, _%_, _<_, _≤_, _^_}
@@ -16,6 +15,7 @@ use borrow.Author.Needs.{needs}
 use Rattle.rabbit.proofs.count.Statement.{statement}
 use Rattle.rabbit.proofs.count.Tie as tie
 
+-- one counter more
 module _ (c : List ℕ) (b i temp : ℕ) (t : temp ≡ getD c i 0 + getD aList i 0 + carryAt c b i) where
   counter-more : {next : List ℕ} → i < length c → next ≡ tab i (counterAt c b) ++ drop i c
       → set next i (temp % 2 ^ 32) ≡ tab (i + 1) (counterAt c b) ++ drop (i + 1) c
