@@ -2,3 +2,4 @@ pub mod Zuc
 pub mod Rabbit
 pub mod Snow2
 pub mod Kcipher2
+pub mod Mugi

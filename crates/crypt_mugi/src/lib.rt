@@ -1,0 +1,130 @@
+// MUGI over a text: the table made once, the rest of a begun unit, whole units four to a turn, and the tail.
+// A caller holds that the place in the unit is one of its eight bytes and that the text fits the buffer.
+ghost use mathlib.Core.Path.{_≡_};
+ghost use mathlib.Core.List.{_++_};
+ghost use Prim.Native.Nat.{_+_, _/_, _≤_, _<_};
+ghost use lib.ListN.{length, take, drop, getD};
+ghost use Rattle.words.specs.Strings.{bytesOf};
+ghost use Rattle.field.specs.Tables.{columnList};
+ghost use Rattle.keystream.specs.Stream.{stateAt, byteAt, xorFrom, Did};
+ghost use Rattle.mugi.specs.Cipher.{left as leftOf, right as rightOf};
+ghost use Rattle.crypt_mugi.specs.Generator.{gen};
+use mugi::Mugi;
+use mugi::join;
+use mugi::left;
+use mugi::right;
+
+// The bytes of a block, most significant first.
+fn bytes(z: u64) -> [u8; 8]
+    ensures { λ r. ⌜ r ≡ bytesOf (leftOf z) ++ bytesOf (rightOf z) ⌝ }
+{
+    let l = words::bytes(left(z));
+    let r = words::bytes(right(z));
+    [l[0], l[1], l[2], l[3], r[0], r[1], r[2], r[3]]
+}
+
+// The bytes of y, most significant first, go to the start of out.
+fn put_block(y: u64, out: &mut [u8])
+    requires { ⌜ 8 ≤ length (now out) ⌝ }
+    ensures { λ _. ⌜ now (out .exit) ≡ bytesOf (leftOf y) ++ bytesOf (rightOf y) ++ drop 8 (now (out .entry)) ⌝ }
+{
+    let b = bytes(y);
+    out[0] = b[0];
+    out[1] = b[1];
+    out[2] = b[2];
+    out[3] = b[3];
+    out[4] = b[4];
+    out[5] = b[5];
+    out[6] = b[6];
+    out[7] = b[7];
+}
+
+// The first eight bytes of text, with those of z, go to the start of out.
+fn put(z: u64, text: &[u8], out: &mut [u8])
+    requires { ⌜ (8 ≤ length (now text)) × (8 ≤ length (now out)) ⌝ }
+    ensures { λ _. ⌜ now (out .exit) ≡ xorFrom (λ j. getD (bytesOf (leftOf z) ++ bytesOf (rightOf z)) j 0) 0 (take 8 (now (text .entry))) ++ drop 8 (now (out .entry)) ⌝ }
+{
+    let l = words::word_at(text, 0);
+    let r = words::word_at(text, 4);
+    put_block(join(l, r) ^ z, out);
+}
+
+// A whole unit, which goes to the start of out.
+fn unit(st: Mugi, t: &[u32; 256], text: &[u8], out: &mut [u8]) -> Mugi
+    requires { ⌜ now t ≡ columnList ⌝ }
+    requires { ⌜ (8 ≤ length (now text)) × (8 ≤ length (now out)) ⌝ }
+    ensures { λ r. ⌜ Did gen 0 st 8 (now (text .entry)) (now (out .entry)) r (now (out .exit)) ⌝ }
+{
+    put(st.output(), text, out);
+    st.step(t)
+}
+
+// Four units.
+fn four(st: Mugi, t: &[u32; 256], text: &[u8], out: &mut [u8]) -> Mugi
+    requires { ⌜ now t ≡ columnList ⌝ }
+    requires { ⌜ (32 ≤ length (now text)) × (32 ≤ length (now out)) ⌝ }
+    ensures { λ r. ⌜ Did gen 0 st 32 (now (text .entry)) (now (out .entry)) r (now (out .exit)) ⌝ }
+{
+    let r = st.four(t);
+    let z = r.z;
+    put(z[0], text, out);
+    put(z[1], &text[8..], &mut out[8..]);
+    put(z[2], &text[16..], &mut out[16..]);
+    put(z[3], &text[24..], &mut out[24..]);
+    r.after
+}
+
+// used bytes of a unit from its byte from on; the state steps where the unit is used up.
+fn part(st: Mugi, t: &[u32; 256], from: usize, used: usize, text: &[u8], out: &mut [u8]) -> Mugi
+    requires { ⌜ now t ≡ columnList ⌝ }
+    requires { ⌜ (from + used ≤ 8) × ((used ≤ length (now text)) × (used ≤ length (now out))) ⌝ }
+    ensures { λ r. ⌜ Did gen from st used (now (text .entry)) (now (out .entry)) r (now (out .exit)) ⌝ }
+{
+    let ks = bytes(st.output());
+    writer::put_part(&ks, from, used, text, out);
+    if from + used == 8 { st.step(t) } else { st }
+}
+
+// A text from the start of a unit on, a unit to a turn.
+fn ones(st: Mugi, t: &[u32; 256], text: &[u8], out: &mut [u8]) -> Mugi
+    requires { ⌜ now t ≡ columnList ⌝ }
+    requires { ⌜ length (now text) ≤ length (now out) ⌝ }
+    ensures { λ r. ⌜ Did gen 0 st (length (now (text .entry))) (now (text .entry)) (now (out .entry)) r (now (out .exit)) ⌝ }
+{
+    let count = text.len();
+    let mut cur = st;
+    let mut at: usize = 0;
+    while 8 <= count - at {
+        cur = unit(cur, t, &text[at..], &mut out[at..]);
+        at += 8;
+    }
+    part(cur, t, 0, count - at, &text[at..], &mut out[at..])
+}
+
+// A text from the start of a unit on, four units to a turn.
+fn fours(st: Mugi, t: &[u32; 256], text: &[u8], out: &mut [u8]) -> Mugi
+    requires { ⌜ now t ≡ columnList ⌝ }
+    requires { ⌜ length (now text) ≤ length (now out) ⌝ }
+    ensures { λ r. ⌜ Did gen 0 st (length (now (text .entry))) (now (text .entry)) (now (out .entry)) r (now (out .exit)) ⌝ }
+{
+    let count = text.len();
+    let mut cur = st;
+    let mut at: usize = 0;
+    while 32 <= count - at {
+        cur = four(cur, t, &text[at..], &mut out[at..]);
+        at += 32;
+    }
+    ones(cur, t, &text[at..], &mut out[at..])
+}
+
+// The text goes to the start of out, XORed with the keystream from byte skip of the unit of st on; the state that comes back is that of the unit in
+// which the next byte lies.
+pub fn crypt(st: Mugi, skip: usize, text: &[u8], out: &mut [u8]) -> Mugi
+    requires { ⌜ (skip < 8) × (length (now text) ≤ length (now out)) ⌝ }
+    ensures { λ r. ⌜ (r ≡ stateAt gen st 0 ((skip + length (now (text .entry))) / 8)) × (now (out .exit) ≡ xorFrom (byteAt gen st 0) skip (now (text .entry)) ++ drop (length (now (text .entry))) (now (out .entry))) ⌝ }
+{
+    let t = field::tables::column();
+    let head = writer::least((8 - skip) % 8, text.len());
+    let cur = part(st, &t, skip, head, text, out);
+    fours(cur, &t, &text[head..], &mut out[head..])
+}

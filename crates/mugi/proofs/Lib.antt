@@ -1,0 +1,4 @@
+pub mod Blocks
+pub mod Steps
+pub mod Filling
+pub mod Ranges

@@ -1,0 +1,14 @@
+-- `mugi::block_at` meets its contract: each word is read from its own place.
+-- Assumes nothing.
+use Rattle.mugi.specs.Cipher.{blockAt}
+use borrow.Author.Needs.{needs}
+use Rattle.mugi.proofs.block_at.Statement.{statement}
+use Rattle.mugi.proofs.block_at.Tie as tie
+
+returns : tie.Need-returns
+unfolding blockAt
+returns c = rw (c .join .ensures, c .before .word-at2 .ensures, c .before .before .word-at .ensures)
+
+pub block-at-spec : {M : Type 1} → statement M
+block-at-spec =
+    tie.close (tie.spec (λ c κs. search needs) (search needs) (λ c κs. search needs) (λ c κs. search needs) returns)

@@ -1,0 +1,16 @@
+-- `mugi::lambda` meets its contract: the literal is the list.
+-- Assumes nothing.
+use Rattle.mugi.specs.Cipher.{lambda1}
+use borrow.Author.Needs.{needs}
+use Rattle.mugi.proofs.lambda.Statement.{statement}
+use Rattle.mugi.proofs.lambda.Tie as tie
+
+returns : tie.Need-returns
+unfolding lambda1
+returns c = rw (c .rotl32 .ensures)
+
+pub lambda-spec : {M : Type 1} → statement M
+lambda-spec =
+    tie.close (tie.spec (search needs) (λ c κs. search needs) (search needs) (search needs) (search needs)
+    (search needs) (search needs) (search needs) (search needs) (search needs) (search needs) (search needs)
+    (search needs) (search needs) (search needs) (search needs) (search needs) (search needs) (search needs) returns)

@@ -1,0 +1,334 @@
+// MUGI (ISO/IEC 18033-4, 8.1): a state by value, its step, its output, four of both at once, and its start from key and IV.
+// A caller holds the lengths of key and IV, sixteen bytes each, and lends the table that `field::tables::column` makes.
+ghost use mathlib.Core.Path.{_≡_};
+ghost use Prim.Native.Nat.{_+_, _*_, _/_, _%_, _^_, _≤_};
+ghost use lib.ListN.{length};
+ghost use Rattle.words.specs.Word.{_∥_, word, high, low, b0, b1, b2, b3};
+ghost use Rattle.words.specs.Lists.{iter};
+ghost use Rattle.field.specs.Tables.{columnList};
+ghost use Rattle.mugi.specs.Cipher.{block, left as leftOf, right as rightOf, rotl64, rotr64, blockAt, mixed as mixedOf, f as fOf, lambda1, next, strm, spread as spreadOf, turned, keyed as keyedOf, added, withIv, init as initOf};
+ghost use Rattle.mugi.specs.Steps.{stirred, first as firstOf, second as secondOf, moved as movedOf, fourOf};
+
+// a0..a2 and b0..b15.
+pub struct Mugi {
+    pub a: [u64; 3],
+    pub b: [u64; 16],
+}
+
+// Four blocks of keystream, and the state after them.
+pub struct Four {
+    pub z: [u64; 4],
+    pub after: Mugi,
+}
+
+// x <<< 7.
+fn rotl7(x: u64) -> u64
+    ensures { λ r. ⌜ r ≡ rotl64 7 x ⌝ }
+{
+    (x << 7) + (x >> 57)
+}
+
+// x >>> 7.
+fn rotr7(x: u64) -> u64
+    ensures { λ r. ⌜ r ≡ rotr64 7 x ⌝ }
+{
+    (x << 57) + (x >> 7)
+}
+
+// x <<< 17.
+fn rotl17(x: u64) -> u64
+    ensures { λ r. ⌜ r ≡ rotl64 17 x ⌝ }
+{
+    (x << 17) + (x >> 47)
+}
+
+// x <<< 32.
+fn rotl32(x: u64) -> u64
+    ensures { λ r. ⌜ r ≡ rotl64 32 x ⌝ }
+{
+    (x << 32) + (x >> 32)
+}
+
+// x <<< 48.
+fn rotl48(x: u64) -> u64
+    ensures { λ r. ⌜ r ≡ rotl64 48 x ⌝ }
+{
+    (x << 48) + (x >> 16)
+}
+
+// The left word of a block.
+pub fn left(x: u64) -> u32
+    ensures { λ r. ⌜ r ≡ leftOf x ⌝ }
+{
+    (x / 4294967296) as u32
+}
+
+// The right word of a block.
+pub fn right(x: u64) -> u32
+    ensures { λ r. ⌜ r ≡ rightOf x ⌝ }
+{
+    (x % 4294967296) as u32
+}
+
+// The block of two words, l the left one.
+pub fn join(l: u32, r: u32) -> u64
+    ensures { λ x. ⌜ x ≡ block l r ⌝ }
+{
+    (l as u64) * 4294967296 + (r as u64)
+}
+
+// The block whose first byte, the most significant, is s[at].
+fn block_at(s: &[u8], at: usize) -> u64
+    requires { ⌜ at + 8 ≤ length (now s) ⌝ }
+    ensures { λ r. ⌜ r ≡ blockAt (now (s .entry)) at ⌝ }
+{
+    let l = words::word_at(s, at);
+    let r = words::word_at(s, at + 4);
+    join(l, r)
+}
+
+// The bytes of w in the other order.
+fn reversed(w: u32) -> u32
+    ensures { λ r. ⌜ r ≡ word (b0 w) (b1 w) (b2 w) (b3 w) ⌝ }
+{
+    let x0 = w % 256;
+    let x1 = w / 256 % 256;
+    let x2 = w / 65536 % 256;
+    let x3 = w / 16777216 % 256;
+    ((x0 * 256 + x1) * 256 + x2) * 256 + x3
+}
+
+// The bytes of w, each pair of them in the other order.
+fn paired(w: u32) -> u32
+    ensures { λ r. ⌜ r ≡ word (b2 w) (b3 w) (b0 w) (b1 w) ⌝ }
+{
+    let x0 = w / 65536 % 256;
+    let x1 = w / 16777216 % 256;
+    let x2 = w % 256;
+    let x3 = w / 256 % 256;
+    ((x0 * 256 + x1) * 256 + x2) * 256 + x3
+}
+
+// M of what S_R makes of the bytes of w, its halves exchanged: T of the bytes in pairs, in the other order.
+fn mixed(w: u32, t: &[u32; 256]) -> u32
+    requires { ⌜ now t ≡ columnList ⌝ }
+    ensures { λ r. ⌜ r ≡ low (mixedOf w) ∥ high (mixedOf w) ⌝ }
+{
+    reversed(field::sub_word(t, paired(w)))
+}
+
+// Q4 Q5 Q2 Q3 Q0 Q1 Q6 Q7, of l, which is Q2 Q3 Q0 Q1, and r, which is Q6 Q7 Q4 Q5.
+fn shuffle(l: u32, r: u32) -> u64
+    ensures { λ y. ⌜ y ≡ r % 2 ^ 16 * 2 ^ 48 + l * 2 ^ 16 + r / 2 ^ 16 ⌝ }
+{
+    rotl48(r as u64) + (l as u64) * 65536
+}
+
+// F, of X xor T.
+fn f(x: u64, t: &[u32; 256]) -> u64
+    requires { ⌜ now t ≡ columnList ⌝ }
+    ensures { λ y. ⌜ y ≡ fOf x ⌝ }
+{
+    let l = mixed(left(x), t);
+    let r = mixed(right(x), t);
+    shuffle(l, r)
+}
+
+// a after rho1, where F gives x and y.
+fn stir(a: [u64; 3], x: u64, y: u64) -> [u64; 3]
+    ensures { λ r. ⌜ r ≡ stirred a x y ⌝ }
+{
+    [
+        a[1],
+        a[2] ^ x ^ 0xbb67ae8584caa73b,
+        a[0] ^ y ^ 0x3c6ef372fe94f82b,
+    ]
+}
+
+// The function lambda1.
+fn lambda(b: [u64; 16], x: u64) -> [u64; 16]
+    ensures { λ r. ⌜ r ≡ lambda1 b x ⌝ }
+{
+    let y = rotl32(b[13]);
+    [
+        b[15] ^ x,
+        b[0],
+        b[1],
+        b[2],
+        b[3] ^ b[7],
+        b[4],
+        b[5],
+        b[6],
+        b[7],
+        b[8],
+        b[9] ^ y,
+        b[10],
+        b[11],
+        b[12],
+        b[13],
+        b[14],
+    ]
+}
+
+// Three blocks of a key or an IV.
+fn spread(k: &[u8]) -> [u64; 3]
+    requires { ⌜ length (now k) ≡ 16 ⌝ }
+    ensures { λ r. ⌜ r ≡ spreadOf (now (k .entry)) ⌝ }
+{
+    let k0 = block_at(k, 0);
+    let k1 = block_at(k, 8);
+    [k0, k1, rotl7(k0) ^ rotr7(k1) ^ 0x6a09e667f3bcc908]
+}
+
+// The blocks of an IV added to a.
+fn add(a: [u64; 3], v: [u64; 3]) -> [u64; 3]
+    ensures { λ r. ⌜ r ≡ added a v ⌝ }
+{
+    [a[0] ^ v[0], a[1] ^ v[1], a[2] ^ v[2]]
+}
+
+// A turn of rho1, without b.
+fn turn(a: [u64; 3], t: &[u32; 256]) -> [u64; 3]
+    requires { ⌜ now t ≡ columnList ⌝ }
+    ensures { λ r. ⌜ r ≡ turned a ⌝ }
+{
+    let x = f(a[1], t);
+    stir(a, x, x)
+}
+
+// Sixteen turns.
+fn turns(a: [u64; 3], t: &[u32; 256]) -> [u64; 3]
+    requires { ⌜ now t ≡ columnList ⌝ }
+    ensures { λ r. ⌜ r ≡ iter 16 turned a ⌝ }
+{
+    let mut x = a;
+    let mut i: usize = 0;
+    while i < 16 {
+        let y = turn(x, t);
+        x = y;
+        i += 1;
+    }
+    x
+}
+
+impl Mugi {
+    // The state of a key: sixteen turns, and a0 of each in b.
+    fn keyed(key: &[u8], t: &[u32; 256]) -> Mugi
+        requires { ⌜ length (now key) ≡ 16 ⌝ }
+        requires { ⌜ now t ≡ columnList ⌝ }
+        ensures { λ r. ⌜ r ≡ keyedOf (now (key .entry)) ⌝ }
+    {
+        let mut a = spread(key);
+        let mut b = [0u64; 16];
+        let mut i: usize = 0;
+        while i < 16 {
+            a = turn(a, t);
+            b[15 - i] = a[0];
+            i += 1;
+        }
+        Mugi { a, b }
+    }
+
+    // The state with an IV: it is added to a, and sixteen turns follow.
+    fn with_iv(self, iv: &[u8], t: &[u32; 256]) -> Mugi
+        requires { ⌜ length (now iv) ≡ 16 ⌝ }
+        requires { ⌜ now t ≡ columnList ⌝ }
+        ensures { λ r. ⌜ r ≡ withIv self (now (iv .entry)) ⌝ }
+    {
+        let a = self.a;
+        let b = self.b;
+        let v = spread(iv);
+        let mixed_a = turns(add(a, v), t);
+        Mugi { a: mixed_a, b }
+    }
+
+    // What F gives for a1.
+    fn first(self, t: &[u32; 256]) -> u64
+        requires { ⌜ now t ≡ columnList ⌝ }
+        ensures { λ r. ⌜ r ≡ firstOf self ⌝ }
+    {
+        let a = self.a;
+        let b = self.b;
+        f(a[1] ^ b[4], t)
+    }
+
+    // What F gives for a2.
+    fn second(self, t: &[u32; 256]) -> u64
+        requires { ⌜ now t ≡ columnList ⌝ }
+        ensures { λ r. ⌜ r ≡ secondOf self ⌝ }
+    {
+        let a = self.a;
+        let b = self.b;
+        f(a[1] ^ rotl17(b[10]), t)
+    }
+
+    // The state after a step where F gives x and y.
+    fn moved(self, x: u64, y: u64) -> Mugi
+        ensures { λ r. ⌜ r ≡ movedOf self x y ⌝ }
+    {
+        let a = self.a;
+        let b = self.b;
+        let moved_a = stir(a, x, y);
+        let moved_b = lambda(b, a[0]);
+        Mugi {
+            a: moved_a,
+            b: moved_b,
+        }
+    }
+
+    // The next state.
+    pub fn step(self, t: &[u32; 256]) -> Mugi
+        requires { ⌜ now t ≡ columnList ⌝ }
+        ensures { λ r. ⌜ r ≡ next self ⌝ }
+    {
+        let x = self.first(t);
+        let y = self.second(t);
+        self.moved(x, y)
+    }
+
+    // The block of keystream.
+    pub fn output(self) -> u64
+        ensures { λ r. ⌜ r ≡ strm self ⌝ }
+    {
+        let blocks = self.a;
+        blocks[2]
+    }
+
+    // Four blocks of keystream and the state after them. The steps are written out in parts, since a step that is called from four places is not compiled
+    // into the loop.
+    pub fn four(self, t: &[u32; 256]) -> Four
+        requires { ⌜ now t ≡ columnList ⌝ }
+        ensures { λ r. ⌜ r ≡ fourOf self ⌝ }
+    {
+        let x0 = self.first(t);
+        let y0 = self.second(t);
+        let s1 = self.moved(x0, y0);
+        let x1 = s1.first(t);
+        let y1 = s1.second(t);
+        let s2 = s1.moved(x1, y1);
+        let x2 = s2.first(t);
+        let y2 = s2.second(t);
+        let s3 = s2.moved(x2, y2);
+        let x3 = s3.first(t);
+        let y3 = s3.second(t);
+        let s4 = s3.moved(x3, y3);
+        let z = [self.output(), s1.output(), s2.output(), s3.output()];
+        Four { z, after: s4 }
+    }
+
+    // S(0) of key and IV.
+    pub fn init(key: &[u8], iv: &[u8], t: &[u32; 256]) -> Mugi
+        requires { ⌜ length (now key) ≡ 16 ⌝ }
+        requires { ⌜ length (now iv) ≡ 16 ⌝ }
+        requires { ⌜ now t ≡ columnList ⌝ }
+        ensures { λ r. ⌜ r ≡ initOf (now (key .entry)) (now (iv .entry)) ⌝ }
+    {
+        let mut s = Mugi::keyed(key, t).with_iv(iv, t);
+        let mut i: usize = 0;
+        while i < 16 {
+            s = s.step(t);
+            i += 1;
+        }
+        s
+    }
+}
