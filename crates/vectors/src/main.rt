@@ -5,6 +5,7 @@ mod streams;
 mod text;
 
 use streams::kcipher2_stream;
+use streams::mugi_stream;
 use streams::rabbit_stream;
 use streams::snow128_stream;
 use streams::snow256_stream;
@@ -169,7 +170,48 @@ fn kcipher2() {
     states::kcipher2();
 }
 
+// C.1.
+fn mugi() {
+    text::line(b"MUGI");
+    heading(b"C.1.1");
+    mugi_stream(
+        b"00000000000000000000000000000000",
+        b"00000000000000000000000000000000",
+        4,
+    );
+    heading(b"C.1.1");
+    mugi_stream(
+        b"00000000000000000000000000000000",
+        b"3461698851812139015500a53b7e5987",
+        4,
+    );
+    heading(b"C.1.1");
+    mugi_stream(
+        b"513400b104a0599130ad00fc48d759e0",
+        b"00000000000000000000000000000000",
+        4,
+    );
+    heading(b"C.1.1");
+    mugi_stream(
+        b"69e706ee5295372c7513014730237993",
+        b"2a0045c8492749d53a9b164a25e44915",
+        4,
+    );
+    heading(b"C.1.2");
+    mugi_stream(
+        b"000102030405060708090a0b0c0d0e0f",
+        b"f0e0d0c0b0a090807060504030201000",
+        4,
+    );
+    heading(b"C.1.2");
+    remark(
+        b"the scan has 3b7b6dbc17a6deal for 3b7b6dbc17a6dea1 at times 3 and 4; its update 16 is time 0, its updates 1 to 4 are times 1 to 4, and the states before them are left out",
+    );
+    states::mugi();
+}
+
 fn main() {
+    mugi();
     snow128();
     snow256();
     rabbit();

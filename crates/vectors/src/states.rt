@@ -1,5 +1,5 @@
 // Sample internal states, from loading through the first outputs, in the annex's layout: registers from the top down for ZUC and SNOW 2.0, from cell 0 up
-// for Rabbit and KCipher-2.
+// for Rabbit, KCipher-2 and MUGI. MUGI's are those from S(0) on.
 ghost use mathlib.Core.Path.{_≡_};
 ghost use Prim.Native.Nat.{_<_};
 ghost use Rattle.field.specs.Tables.{columnList};
@@ -7,6 +7,7 @@ ghost use Rattle.zuc.specs.Tables.{Lent as ZucLent};
 ghost use Rattle.snow2.specs.Tables.{Lent as SnowLent};
 ghost use Rattle.kcipher2.specs.Tables.{Lent as KcipherLent};
 use crate::streams::unit_up;
+use crate::text::block;
 use crate::text::cell;
 use crate::text::end;
 use crate::text::line;
@@ -14,39 +15,35 @@ use crate::text::named;
 use crate::text::put;
 use crate::text::time;
 use crate::text::unhex;
+use crate::text::word;
 use kcipher2::Kcipher2;
+use libc::STDOUT_FILENO;
+use mugi::Mugi;
 use rabbit::Rabbit;
 use snow2::Snow2;
 use zuc::Zuc;
 
+// Cell i of a register with its number, and the end of a line of eight.
+fn numbered(i: usize, w: u32) {
+    put(b" ");
+    if i < 10 {
+        put(b"0");
+    }
+    io::print_decimal(STDOUT_FILENO, i as u64);
+    put(b":");
+    word(w);
+    if i % 8 == 0 {
+        end();
+    }
+}
+
 // Sixteen cells, from the top down.
 fn register(a: [u32; 16]) {
-    upper(a);
-    lower(a);
-}
-
-fn upper(a: [u32; 16]) {
-    named(b"15", a[15]);
-    named(b"14", a[14]);
-    named(b"13", a[13]);
-    named(b"12", a[12]);
-    named(b"11", a[11]);
-    named(b"10", a[10]);
-    named(b"09", a[9]);
-    named(b"08", a[8]);
-    end();
-}
-
-fn lower(a: [u32; 16]) {
-    named(b"07", a[7]);
-    named(b"06", a[6]);
-    named(b"05", a[5]);
-    named(b"04", a[4]);
-    named(b"03", a[3]);
-    named(b"02", a[2]);
-    named(b"01", a[1]);
-    named(b"00", a[0]);
-    end();
+    let mut i: usize = 16;
+    while 0 < i {
+        i -= 1;
+        numbered(i, a[i]);
+    }
 }
 
 fn zuc_state(s: Zuc) {
@@ -142,24 +139,22 @@ pub fn snow256() {
     snow_states(Snow2::load256(&key, &iv));
 }
 
-fn eight(name: &[u8], a: [u32; 8]) {
+// A line of cells.
+fn cells(name: &[u8], s: &[u32]) {
     put(name);
-    cell(a[0]);
-    cell(a[1]);
-    cell(a[2]);
-    cell(a[3]);
-    cell(a[4]);
-    cell(a[5]);
-    cell(a[6]);
-    cell(a[7]);
+    let mut i: usize = 0;
+    while i < s.len() {
+        cell(s[i]);
+        i += 1;
+    }
     end();
 }
 
 fn rabbit_state(s: Rabbit) {
     let x = s.x;
     let c = s.c;
-    eight(b" x", x);
-    eight(b" c", c);
+    cells(b" x", &x);
+    cells(b" c", &c);
     put(b" carry");
     cell(s.b);
     end();
@@ -200,37 +195,11 @@ pub fn rabbit() {
     rabbit_run(s.add_iv(&iv), 5, 9);
 }
 
-fn five(a: [u32; 5]) {
-    put(b" A");
-    cell(a[0]);
-    cell(a[1]);
-    cell(a[2]);
-    cell(a[3]);
-    cell(a[4]);
-    end();
-}
-
-fn eleven(b: [u32; 11]) {
-    put(b" B");
-    cell(b[0]);
-    cell(b[1]);
-    cell(b[2]);
-    cell(b[3]);
-    cell(b[4]);
-    cell(b[5]);
-    cell(b[6]);
-    cell(b[7]);
-    cell(b[8]);
-    cell(b[9]);
-    cell(b[10]);
-    end();
-}
-
 fn kcipher2_state(s: Kcipher2) {
     let a = s.a;
     let b = s.b;
-    five(a);
-    eleven(b);
+    cells(b" A", &a);
+    cells(b" B", &b);
     named(b"R1", s.r1);
     named(b"L1", s.l1);
     named(b"R2", s.r2);
@@ -280,4 +249,48 @@ pub fn kcipher2() {
     unhex(b"00000004000000030000000200000001", &mut iv);
     let t = field::tables::column();
     kcipher2_states(Kcipher2::load(&key, &iv, &t), &t);
+}
+
+// Block i of a register, at the start of a line where four stand before it.
+fn nth(i: usize, x: u64) {
+    if 0 < i && i % 4 == 0 {
+        put(b"\n  ");
+    }
+    put(b" ");
+    block(x);
+}
+
+// Blocks, four to a line.
+fn blocks(name: &[u8], s: &[u64]) {
+    put(name);
+    let mut i: usize = 0;
+    while i < s.len() {
+        nth(i, s[i]);
+        i += 1;
+    }
+    end();
+}
+
+fn mugi_state(s: Mugi) {
+    let a = s.a;
+    let b = s.b;
+    blocks(b" a", &a);
+    blocks(b" b", &b);
+}
+
+// S(0) is the annex's last update of the start, S(1) to S(4) are its updates of the stream.
+pub fn mugi() {
+    let mut key = [0u8; 16];
+    let mut iv = [0u8; 16];
+    unhex(b"000102030405060708090a0b0c0d0e0f", &mut key);
+    unhex(b"f0e0d0c0b0a090807060504030201000", &mut iv);
+    let t = field::tables::column();
+    let mut s = Mugi::init(&key, &iv, &t);
+    let mut i: usize = 0;
+    while i < 5 {
+        time(i, 0);
+        mugi_state(s);
+        s = s.step(&t);
+        i += 1;
+    }
 }

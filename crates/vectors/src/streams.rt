@@ -2,12 +2,14 @@
 ghost use Rattle.zuc.specs.Tables.{Lent as ZucLent};
 ghost use Rattle.snow2.specs.Tables.{Lent as SnowLent};
 ghost use Rattle.kcipher2.specs.Tables.{Lent as KcipherLent};
+use crate::text::block;
 use crate::text::end;
 use crate::text::line;
 use crate::text::put;
 use crate::text::unhex;
 use crate::text::word;
 use kcipher2::Kcipher2;
+use mugi::Mugi;
 use rabbit::Rabbit;
 use snow2::Snow2;
 use zuc::Zuc;
@@ -156,4 +158,21 @@ pub fn kcipher2_stream(k: &[u8], v: &[u8], units: usize) {
     let t = field::tables::column();
     let s = Kcipher2::init(&key, &iv, &m0, &m1, &m2, &m3, &t);
     kcipher2_units(s, &m0, &m1, &m2, &m3, &t, units);
+}
+
+pub fn mugi_stream(k: &[u8], v: &[u8], units: usize) {
+    inputs(k, v);
+    let mut key = [0u8; 16];
+    let mut iv = [0u8; 16];
+    unhex(k, &mut key);
+    unhex(v, &mut iv);
+    let t = field::tables::column();
+    let mut s = Mugi::init(&key, &iv, &t);
+    let mut i: usize = 0;
+    while i < units {
+        block(s.output());
+        s = s.step(&t);
+        i += 1;
+    }
+    end();
 }

@@ -1,4 +1,4 @@
-// What the program prints: lines, hexadecimal words and bytes, and the time of a state.
+// What the program prints: lines, hexadecimal words, blocks and bytes, and the time of a state.
 use libc::STDOUT_FILENO;
 
 pub fn put(s: &[u8]) {
@@ -35,6 +35,10 @@ pub fn word(w: u32) {
 pub fn cell(w: u32) {
     put(b" ");
     word(w);
+}
+
+pub fn block(x: u64) {
+    io::print_hex(STDOUT_FILENO, x, 16);
 }
 
 // A space and a word with its name.
