@@ -11,7 +11,7 @@
 #include <time.h>
 
 /* Rounds are short and many, so that on a busy machine each side meets some quiet ones. */
-enum { ROUNDS = 400, CIPHERS = 4, LONGEST = 65535 };
+enum { ROUNDS = 400, CIPHERS = 5, LONGEST = 65535 };
 static const double ROUND_SECONDS = 0.001;
 
 /* Crypts of n bytes one after the other, or each with an open before and a close after it. */
@@ -35,6 +35,7 @@ static const struct cipher CIPHER[CIPHERS] = {
     {"rabbit", 2, 16, &TEXTBOOK_RABBIT, {KEY}, {IV8}},
     {"snow2", 3, 16, &TEXTBOOK_SNOW2, {KEY}, {IV16}},
     {"kcipher2", 5, 16, &TEXTBOOK_KCIPHER2, {KEY}, {IV16}},
+    {"mugi", 6, 16, &TEXTBOOK_MUGI, {KEY}, {IV16}},
 };
 
 static uint8_t data[LONGEST], card_out[LONGEST], other_out[LONGEST];

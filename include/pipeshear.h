@@ -15,10 +15,10 @@ extern "C" {
 #endif
 
 /* The words of a card. */
-#define PIPESHEAR_CARD 192
+#define PIPESHEAR_CARD 336
 
 /* The bytes of a parked line's image. */
-#define PIPESHEAR_IMAGE 89
+#define PIPESHEAR_IMAGE 161
 
 /* One call: the first command in `command` is run on `card`.
  *
@@ -37,7 +37,7 @@ extern "C" {
  *     1  command empty or cut short          8  an image that is none
  *     2  first byte not 01 to 06             9  tray length not a multiple of 32, or over 8192
  *     3  line over 7                        10  key number not in the tray
- *     4  cipher not 1 to 5                  11  data shorter than the count
+ *     4  cipher not 1 to 6                  11  data shorter than the count
  *     5  open or resume on an open line     12  out shorter than the count, or than an image for a park
  *     6  crypt, park or close on an idle    13  position and count over 2^36
  *     7  a key or IV byte beyond the       255  damaged card, card_words not PIPESHEAR_CARD, or places not 3

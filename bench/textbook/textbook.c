@@ -1,4 +1,4 @@
-/* The four ciphers with one type for their functions. */
+/* The five ciphers with one type for their functions. */
 #include "textbook.h"
 
 static void init_zuc(union textbook_state *s, const uint8_t *key, size_t key_len,
@@ -25,6 +25,12 @@ static void init_kcipher2(union textbook_state *s, const uint8_t *key, size_t ke
     kcipher2_init(&s->kcipher2, key, key_len, iv);
 }
 
+static void init_mugi(union textbook_state *s, const uint8_t *key, size_t key_len,
+                      const uint8_t *iv)
+{
+    mugi_init(&s->mugi, key, key_len, iv);
+}
+
 static void crypt_zuc(union textbook_state *s, const uint8_t *in, uint8_t *out, size_t n)
 {
     zuc_crypt(&s->zuc, in, out, n);
@@ -45,7 +51,13 @@ static void crypt_kcipher2(union textbook_state *s, const uint8_t *in, uint8_t *
     kcipher2_crypt(&s->kcipher2, in, out, n);
 }
 
+static void crypt_mugi(union textbook_state *s, const uint8_t *in, uint8_t *out, size_t n)
+{
+    mugi_crypt(&s->mugi, in, out, n);
+}
+
 const struct textbook TEXTBOOK_ZUC = {"zuc", init_zuc, crypt_zuc};
 const struct textbook TEXTBOOK_RABBIT = {"rabbit", init_rabbit, crypt_rabbit};
 const struct textbook TEXTBOOK_SNOW2 = {"snow2", init_snow2, crypt_snow2};
 const struct textbook TEXTBOOK_KCIPHER2 = {"kcipher2", init_kcipher2, crypt_kcipher2};
+const struct textbook TEXTBOOK_MUGI = {"mugi", init_mugi, crypt_mugi};

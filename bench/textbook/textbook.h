@@ -1,10 +1,11 @@
-/* Plain C implementations of four stream ciphers, written as their papers describe them.
+/* Plain C implementations of five stream ciphers, written as their papers describe them.
    NAME_init makes the state of a key and an IV; NAME_crypt XORs n bytes with the keystream
    from the current position on, so that a text may be split anywhere. */
 #ifndef TEXTBOOK_H
 #define TEXTBOOK_H
 
 #include "kcipher2.h"
+#include "mugi.h"
 #include "rabbit.h"
 #include "snow2.h"
 #include "zuc.h"
@@ -14,6 +15,7 @@ union textbook_state {
     struct rabbit rabbit;
     struct snow2 snow2;
     struct kcipher2 kcipher2;
+    struct mugi mugi;
 };
 
 /* A cipher with its two functions, for callers that choose one as they run. */
@@ -23,6 +25,7 @@ struct textbook {
     void (*crypt)(union textbook_state *, const uint8_t *in, uint8_t *out, size_t n);
 };
 
-extern const struct textbook TEXTBOOK_ZUC, TEXTBOOK_RABBIT, TEXTBOOK_SNOW2, TEXTBOOK_KCIPHER2;
+extern const struct textbook TEXTBOOK_ZUC, TEXTBOOK_RABBIT, TEXTBOOK_SNOW2, TEXTBOOK_KCIPHER2,
+    TEXTBOOK_MUGI;
 
 #endif

@@ -26,7 +26,7 @@ pub struct Counts {
 
 impl Card {
     /// The words of a card.
-    pub const WORDS: usize = 192;
+    pub const WORDS: usize = 336;
 
     /// A fresh card, with all lines idle.
     pub const fn new() -> Card {
@@ -60,9 +60,9 @@ impl Card {
     /// they are. A refused command changes neither the card nor `out`.
     ///
     /// ```
-    /// use pipeshear::{command, Card};
+    /// use pipeshear::{command, Card, IMAGE};
     ///
-    /// let refusal = Card::new().call(&command::park(4), &[], &[], &mut [0; 89]).unwrap_err();
+    /// let refusal = Card::new().call(&command::park(4), &[], &[], &mut [0; IMAGE]).unwrap_err();
     /// assert_eq!(refusal.to_string(), "crypt, park or close on an idle line (code 6)");
     /// ```
     pub fn call(&mut self, command: &[u8], tray: &[u8], data: &[u8], out: &mut [u8]) -> Result<Counts, Refusal> {
@@ -131,7 +131,7 @@ mod tests {
             match card.call(&command::crypt(4, 5), &[], &[1; 5], &mut out) {
                 Err(refusal) => assert_eq!((refusal.code(), card.words(), out), (255, &damaged, [7; 5])),
                 // Line 4 may be at byte 17 as well.
-                Ok(_) => assert_eq!(place, 4 * 24 + 3),
+                Ok(_) => assert_eq!(place, 4 * (Card::WORDS / 8) + 3),
             }
         }
     }

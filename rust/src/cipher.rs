@@ -14,6 +14,8 @@ pub enum Cipher {
     Snow2Key32 = 4,
     /// KCipher-2: key 16, IV 16.
     KCipher2 = 5,
+    /// MUGI: key 16, IV 16.
+    Mugi = 6,
 }
 
 impl Cipher {

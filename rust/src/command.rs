@@ -65,11 +65,11 @@ mod tests {
     #[test]
     fn each_command_is_taken() {
         let (mut card, mut out) = (Card::new(), [0; IMAGE]);
-        assert_eq!(counts(&mut card, &open_tray(7, Cipher::KCipher2, 0, &[9; IV]), &mut out), (20, 0, 0));
+        assert_eq!(counts(&mut card, &open_tray(7, Cipher::Mugi, 0, &[9; IV]), &mut out), (20, 0, 0));
         assert_eq!(counts(&mut card, &open_own(1, Cipher::Snow2Key32, &[8; KEY], &[9; IV]), &mut out), (51, 0, 0));
         assert_eq!(counts(&mut card, &crypt(7, 9), &mut out), (4, 9, 9));
         assert_eq!(counts(&mut card, &park(7), &mut out), (2, 0, IMAGE));
-        assert_eq!(counts(&mut card, &resume(0, &out), &mut []), (91, 0, 0));
+        assert_eq!(counts(&mut card, &resume(0, &out), &mut []), (2 + IMAGE, 0, 0));
         assert_eq!(counts(&mut card, &close(0), &mut out), (2, 0, 0));
         assert_eq!(counts(&mut card, &close(1), &mut out), (2, 0, 0));
         assert_eq!(card, Card::new());

@@ -62,4 +62,4 @@ pub use raw::raw_call;
 pub use refusal::Refusal;
 
 /// The bytes of a parked line's image.
-pub const IMAGE: usize = 89;
+pub const IMAGE: usize = 161;

@@ -22,10 +22,11 @@ extern "C" {
 ///
 /// Returns the code, 0 for an accepted command. `counts` are the bytes used of `command`, the bytes used of `data` and
 /// the bytes written to `out`, all 0 if the command is refused. Slices of any lengths may be given: a card that has not
-/// 192 words gets 255, and so do counts that are not three, which then stay as they are.
+/// [`Card::WORDS`](crate::Card::WORDS) words gets 255, and so do counts that are not three, which then stay as they
+/// are.
 ///
 /// ```
-/// let (mut words, mut counts) = ([0; 192], [0; 3]);
+/// let (mut words, mut counts) = ([0; pipeshear::Card::WORDS], [0; 3]);
 /// let code = pipeshear::raw_call(&mut words, &pipeshear::command::close(3), &[], &[], &mut [], &mut counts);
 /// assert_eq!(code, 6);
 /// ```
@@ -61,10 +62,12 @@ pub fn raw_call(
 #[cfg(test)]
 mod tests {
     use super::*;
+    use crate::Card;
 
     #[test]
     fn other_lengths_are_255_and_nothing_is_changed() {
-        for (words, places) in [(0, 3), (191, 3), (193, 3), (192, 0), (192, 2), (192, 4)] {
+        let whole = Card::WORDS;
+        for (words, places) in [(0, 3), (whole - 1, 3), (whole + 1, 3), (whole, 0), (whole, 2), (whole, 4)] {
             let (mut card, mut out, mut counts) = (vec![0; words], [7; 9], vec![5; places]);
             let code = raw_call(&mut card, &[3, 0, 0, 9], &[], &[1; 9], &mut out, &mut counts);
             assert_eq!((code, out), (255, [7; 9]));

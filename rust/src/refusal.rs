@@ -37,7 +37,7 @@ fn text(code: u8) -> &'static str {
         1 => "command empty or cut short",
         2 => "first byte not 01 to 06",
         3 => "line over 7",
-        4 => "cipher not 1 to 5",
+        4 => "cipher not 1 to 6",
         5 => "open or resume on an open line",
         6 => "crypt, park or close on an idle line",
         7 => "a key or IV byte beyond the cipher's length is not 0",

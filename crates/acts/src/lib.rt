@@ -5,11 +5,13 @@ ghost use mathlib.Core.Bool.{true};
 ghost use mathlib.Core.List.{List, _++_};
 ghost use Prim.Native.Nat.{ℕ, _+_, _≤_};
 ghost use lib.ListN.{length, drop};
+ghost use Rattle.ciphers.specs.States.{stateWords};
 ghost use Rattle.command.specs.Decode.{decodeOf};
 ghost use Rattle.command.specs.declared.Command.the-variants.{Crypt, Park, Resume, Close};
 ghost use Rattle.command.specs.declared.Decoded.the-variants.{Run};
-ghost use Rattle.machine.specs.Machine.{Call, shown, based, moved, enciphered, openOk, lineOk, limit};
+ghost use Rattle.machine.specs.Machine.{Call, shown, based, moved, enciphered, openOk, lineOk};
 ghost use Rattle.answer.specs.Answer.{callOf, Acts};
+ghost use Rattle.acts.specs.Lent.{lineWith, actedWith};
 use answer::Acted;
 use answer::idle_line;
 use answer::placed;
@@ -22,25 +24,75 @@ use line::Line;
 use opening::run_own;
 use opening::run_tray;
 
-// The line as many bytes on as the text has, which goes to the start of out, XORed with the line's keystream.
-fn crypt_line(l: Line, text: &[u8], out: &mut [u8]) -> Line
-    requires { ⌜ openOk l ≡ true ⌝ }
-    requires { ⌜ (l .n + length (now text) ≤ limit) × (length (now text) ≤ length (now out)) ⌝ }
-    ensures { λ r. ⌜ (r ≡ shown (moved (based l) (length (now (text .entry))))) × (now (out .exit) ≡ enciphered (based l) (now (text .entry)) ++ drop (length (now (text .entry))) (now (out .entry))) ⌝ }
+// What a crypt gives beside the line's words: its position, and the code and the counts of an answer.
+pub struct Moved {
+    pub n: u64,
+    pub code: u8,
+    pub used_command: usize,
+    pub used_data: usize,
+    pub written: usize,
+}
+
+// The words of an open line at n as many bytes on as the text has, which goes to the start of out, XORed with the line's keystream.
+fn crypt_words(cipher: u8, n: u64, w: &mut [u32], text: &[u8], out: &mut [u8])
+    requires { ⌜ (length (now w) ≡ stateWords) × (openOk (lineWith 1 cipher n (now w)) ≡ true) ⌝ }
+    requires { ⌜ length (now text) ≤ length (now out) ⌝ }
+    ensures { λ _. ⌜ (lineWith 1 cipher (n + length (now (text .entry))) (now (w .exit)) ≡ shown (moved (based (lineWith 1 cipher n (now (w .entry)))) (length (now (text .entry))))) × (now (out .exit) ≡ enciphered (based (lineWith 1 cipher n (now (w .entry)))) (now (text .entry)) ++ drop (length (now (text .entry))) (now (out .entry))) ⌝ }
 {
-    let mode = l.mode;
-    let cipher = l.cipher;
-    let n = l.n;
-    let w = l.words;
     let unit = unit_of(cipher) as u64;
     let skip = (n % unit) as usize;
-    let words = dispatch::crypt(cipher, w, skip, text, out);
-    let k = text.len() as u64;
-    Line {
-        mode,
-        cipher,
+    dispatch::crypt(cipher, w, skip, text, out);
+}
+
+// A refused crypt: the position as it was, and three zeros.
+fn unmoved(n: u64, code: u8) -> Moved
+    ensures { λ r. ⌜ r ≡ record { n = n; code = code; «used_command» = 0; «used_data» = 0; written = 0 } ⌝ }
+{
+    Moved {
+        n,
+        code,
+        used_command: 0,
+        used_data: 0,
+        written: 0,
+    }
+}
+
+// A crypt of count bytes on a line whose words are lent.
+pub fn crypt_lent(
+    mode: u8,
+    cipher: u8,
+    n: u64,
+    w: &mut [u32],
+    count: usize,
+    data: &[u8],
+    out: &mut [u8],
+) -> Moved
+    requires { ⌜ (length (now w) ≡ stateWords) × (lineOk (lineWith mode cipher n (now w)) ≡ true) ⌝ }
+    ensures { λ r. ⌜ ((i : ℕ) (command tray : List ℕ) → Acts (lineWith mode cipher n (now (w .entry))) (Crypt i count) (callOf command tray (now («data» .entry)) (now (out .entry))) (actedWith mode cipher r (now (w .exit))) (now (out .exit))) ⌝ }
+{
+    let k = count as u64;
+    if mode != 1 {
+        return unmoved(n, 6);
+    }
+    if k > LIMIT {
+        return unmoved(n, 13);
+    }
+    if n > LIMIT - k {
+        return unmoved(n, 13);
+    }
+    if data.len() < count {
+        return unmoved(n, 11);
+    }
+    if out.len() < count {
+        return unmoved(n, 12);
+    }
+    crypt_words(cipher, n, w, &data[..count], out);
+    Moved {
         n: n + k,
-        words,
+        code: 0,
+        used_command: command::CRYPT,
+        used_data: count,
+        written: count,
     }
 }
 
@@ -50,30 +102,22 @@ fn run_crypt(l: Line, count: usize, data: &[u8], out: &mut [u8]) -> Acted
     ensures { λ r. ⌜ ((i : ℕ) (command tray : List ℕ) → Acts l (Crypt i count) (callOf command tray (now («data» .entry)) (now (out .entry))) r (now (out .exit))) ⌝ }
 {
     let mode = l.mode;
+    let cipher = l.cipher;
     let n = l.n;
-    let k = count as u64;
-    if mode != 1 {
-        return stopped(l, 6);
-    }
-    if k > LIMIT {
-        return stopped(l, 13);
-    }
-    if n > LIMIT - k {
-        return stopped(l, 13);
-    }
-    if data.len() < count {
-        return stopped(l, 11);
-    }
-    if out.len() < count {
-        return stopped(l, 12);
-    }
-    let on = crypt_line(l, &data[..count], out);
+    let mut w = l.words;
+    let on = crypt_lent(mode, cipher, n, &mut w, count, data, out);
+    let line = Line {
+        mode,
+        cipher,
+        n: on.n,
+        words: w,
+    };
     Acted {
-        line: on,
-        code: 0,
-        used_command: command::CRYPT,
-        used_data: count,
-        written: count,
+        line,
+        code: on.code,
+        used_command: on.used_command,
+        used_data: on.used_data,
+        written: on.written,
     }
 }
 
@@ -101,14 +145,14 @@ fn run_park(l: Line, out: &mut [u8]) -> Acted
 
 // A resume from the command's image.
 fn run_resume(l: Line, command: &[u8]) -> Acted
-    requires { ⌜ 91 ≤ length (now command) ⌝ }
+    requires { ⌜ 163 ≤ length (now command) ⌝ }
     ensures { λ r. ⌜ ((i : ℕ) (tray text out : List ℕ) → Acts l (Resume i) (callOf (now (command .entry)) tray text out) r out) ⌝ }
 {
     let mode = l.mode;
     if mode != 0 {
         return stopped(l, 5);
     }
-    let img = &command[2..91];
+    let img = &command[2..163];
     let back = image::read(img);
     let ok = open_ok(back);
     if !ok {

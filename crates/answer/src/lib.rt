@@ -61,7 +61,7 @@ pub fn idle_line() -> Line
         mode: 0,
         cipher: 0,
         n: 0,
-        words: [0u32; 20],
+        words: [0u32; 38],
     }
 }
 

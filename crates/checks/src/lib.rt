@@ -3,9 +3,11 @@
 ghost use mathlib.Core.Path.{_≡_};
 ghost use mathlib.Core.Bool.{true};
 ghost use lib.Dec.{eqb};
-ghost use lib.ListN.{take, getD};
+ghost use Prim.Native.Nat.{_≤_};
+ghost use lib.ListN.{length, take, getD};
+ghost use Rattle.ciphers.specs.States.{stateWords};
 ghost use Rattle.words.specs.Tests.{both, pick};
-ghost use Rattle.ciphers.specs.Table.{isCipher, cipherAt, areCells, allZero, twoSpare};
+ghost use Rattle.ciphers.specs.Table.{isCipher, cipherAt, areCells, allZero, spare as spareOf};
 ghost use Rattle.machine.specs.Machine.{openOk, idleOk, lineOk, allOk, lineCount};
 use line::Line;
 
@@ -39,9 +41,10 @@ pub fn words_zero(s: &[u32]) -> bool
     all == 0
 }
 
-// Whether the first sixteen words are cells of ZUC.
-fn cells(w: [u32; 20]) -> bool
-    ensures { λ r. ⌜ r ≡ areCells (take 16 w) ⌝ }
+// Whether the first sixteen words of a state are cells of ZUC.
+fn cells(w: &[u32]) -> bool
+    requires { ⌜ length (now w) ≡ stateWords ⌝ }
+    ensures { λ r. ⌜ r ≡ areCells (take 16 (now (w .entry))) ⌝ }
 {
     let mut i: usize = 0;
     while i < 16 {
@@ -57,27 +60,24 @@ fn cells(w: [u32; 20]) -> bool
     true
 }
 
-// Whether the two last words are zero.
-fn two_spare(w: [u32; 20]) -> bool
-    ensures { λ r. ⌜ r ≡ twoSpare w ⌝ }
+// Whether the words after the first k are zero.
+fn spare(w: &[u32], k: usize) -> bool
+    requires { ⌜ k ≤ length (now w) ⌝ }
+    ensures { λ r. ⌜ r ≡ spareOf k (now (w .entry)) ⌝ }
 {
-    let a = w[18];
-    let b = w[19];
-    if a != 0 {
-        return false;
-    }
-    b == 0
+    words_zero(&w[k..])
 }
 
 // Whether ZUC admits a state.
-fn zuc_admits(w: [u32; 20]) -> bool
-    ensures { λ r. ⌜ r ≡ both (areCells (take 16 w)) (twoSpare w) ⌝ }
+fn zuc_admits(w: &[u32]) -> bool
+    requires { ⌜ length (now w) ≡ stateWords ⌝ }
+    ensures { λ r. ⌜ r ≡ both (areCells (take 16 (now (w .entry)))) (spareOf 18 (now (w .entry))) ⌝ }
 {
     let all = cells(w);
     if !all {
         return false;
     }
-    two_spare(w)
+    spare(w, 18)
 }
 
 // Whether a word is the byte of Rabbit's carry, with zeros after it.
@@ -91,32 +91,48 @@ fn is_carry(w: u32) -> bool
 }
 
 // Whether Rabbit admits a state.
-fn rabbit_admits(w: [u32; 20]) -> bool
-    ensures { λ r. ⌜ r ≡ both (pick (eqb (getD w 16 0) 0) true (eqb (getD w 16 0) 16777216)) (both (eqb (getD w 17 0) 0) (twoSpare w)) ⌝ }
+fn rabbit_admits(w: &[u32]) -> bool
+    requires { ⌜ length (now w) ≡ stateWords ⌝ }
+    ensures { λ r. ⌜ r ≡ both (pick (eqb (getD (now (w .entry)) 16 0) 0) true (eqb (getD (now (w .entry)) 16 0) 16777216)) (spareOf 17 (now (w .entry))) ⌝ }
 {
     let carry = w[16];
-    let rest = w[17];
     let fits = is_carry(carry);
     if !fits {
         return false;
     }
-    if rest != 0 {
-        return false;
-    }
-    two_spare(w)
+    spare(w, 17)
 }
 
 // Whether a cipher admits a state.
-fn admits(c: u8, w: [u32; 20]) -> bool
-    ensures { λ r. ⌜ r ≡ cipherAt c .admits w ⌝ }
+fn admits(c: u8, w: &[u32]) -> bool
+    requires { ⌜ length (now w) ≡ stateWords ⌝ }
+    ensures { λ r. ⌜ r ≡ cipherAt c .admits (now (w .entry)) ⌝ }
 {
     match c {
         1 => zuc_admits(w),
         2 => rabbit_admits(w),
-        3 => two_spare(w),
-        4 => two_spare(w),
+        3 => spare(w, 18),
+        4 => spare(w, 18),
+        5 => spare(w, 20),
         _ => true,
     }
+}
+
+// Whether an open line with this cipher, this position and these words is well formed.
+pub fn open_with(c: u8, n: u64, w: &[u32]) -> bool
+    requires { ⌜ length (now w) ≡ stateWords ⌝ }
+    ensures { λ r. ⌜ r ≡ openOk (record { mode = 1; cipher = c; n = n; words = now (w .entry) }) ⌝ }
+{
+    if c == 0 {
+        return false;
+    }
+    if c > 6 {
+        return false;
+    }
+    if n > LIMIT {
+        return false;
+    }
+    admits(c, w)
 }
 
 // Whether an open line, or an image's, is well formed.
@@ -126,16 +142,7 @@ pub fn open_ok(l: Line) -> bool
     let c = l.cipher;
     let n = l.n;
     let w = l.words;
-    if c == 0 {
-        return false;
-    }
-    if c > 5 {
-        return false;
-    }
-    if n > LIMIT {
-        return false;
-    }
-    admits(c, w)
+    open_with(c, n, &w)
 }
 
 // Whether a line that says it is idle is as on a fresh card.

@@ -13,10 +13,11 @@ use Rattle.zuc.proofs.Ranges as Z
 use Rattle.rabbit.proofs.Ranges as R
 use Rattle.snow2.proofs.Ranges as S
 use Rattle.kcipher2.proofs.Ranges as K
-use Rattle.ciphers.specs.States.{zucState, rabbitState, snow2State, kcipher2State}
-use Rattle.ciphers.specs.Table.{Cipher, zuc, rabbit, snow128, snow256, kcipher2, cipherAt}
+use Rattle.mugi.proofs.Ranges as M
+use Rattle.ciphers.specs.States.{zucState, rabbitState, snow2State, kcipher2State, mugiState}
+use Rattle.ciphers.specs.Table.{Cipher, zuc, rabbit, snow128, snow256, kcipher2, mugi, cipherAt}
 use Rattle.ciphers.specs.Fit.{Fit}
-use Rattle.ciphers.proofs.States.{zuc-fit, zuc-range, rabbit-fit, rabbit-range, snow128-fit, snow256-fit, snow2-range, kcipher2-fit, kcipher2-range}
+use Rattle.ciphers.proofs.States.{zuc-fit, zuc-range, rabbit-fit, rabbit-range, snow128-fit, snow256-fit, snow2-range, kcipher2-fit, kcipher2-range, mugi-fit, mugi-range}
 
 pub record Sound (c : Cipher) : Type 0 where
   pub unit-pos : zero < c .gen .unit
@@ -53,7 +54,7 @@ snow128-sound =
     record {
       unit-pos = lit< tt;
       init-fit = λ k iv hk hv. snow128-fit _ (S.init128-range k iv hk hv);
-      next-fit = λ w h. snow128-fit _ (S.next-range (snow2State w) (snow2-range w (h .twenty) (h .words)));
+      next-fit = λ w h. snow128-fit _ (S.next-range (snow2State w) (snow2-range w (h .full) (h .words)));
       strm-length = λ w. S.unit-length (snow2State w);
       strm-bytes = λ w. S.unit-bytes (snow2State w);
     }
@@ -64,7 +65,7 @@ snow256-sound =
     record {
       unit-pos = lit< tt;
       init-fit = λ k iv hk hv. snow256-fit _ (S.init256-range k iv hk hv);
-      next-fit = λ w h. snow256-fit _ (S.next-range (snow2State w) (snow2-range w (h .twenty) (h .words)));
+      next-fit = λ w h. snow256-fit _ (S.next-range (snow2State w) (snow2-range w (h .full) (h .words)));
       strm-length = λ w. S.unit-length (snow2State w);
       strm-bytes = λ w. S.unit-bytes (snow2State w);
     }
@@ -75,9 +76,20 @@ kcipher2-sound =
     record {
       unit-pos = lit< tt;
       init-fit = λ k iv hk hv. kcipher2-fit _ (K.init-range k iv hk hv);
-      next-fit = λ w h. kcipher2-fit _ (K.next-range (kcipher2State w) (kcipher2-range w (h .twenty) (h .words)));
+      next-fit = λ w h. kcipher2-fit _ (K.next-range (kcipher2State w) (kcipher2-range w (h .full) (h .words)));
       strm-length = λ w. K.unit-length (kcipher2State w);
       strm-bytes = λ w. K.unit-bytes (kcipher2State w);
+    }
+
+mugi-sound : Sound mugi
+unfolding mugi
+mugi-sound =
+    record {
+      unit-pos = lit< tt;
+      init-fit = λ k iv hk hv. mugi-fit _ (M.init-range k iv hk hv);
+      next-fit = λ w h. mugi-fit _ (M.next-range (mugiState w) (mugi-range w (h .words)));
+      strm-length = λ w. M.unit-length (mugiState w);
+      strm-bytes = λ w. M.unit-bytes (mugiState w);
     }
 
 either : (b : Bool) (x y : Cipher) → Sound x → Sound y → Sound (pick b x y)
@@ -89,4 +101,4 @@ pub sound : (c : ℕ) → Sound (cipherAt c)
 unfolding cipherAt
 sound c =
     either (eqb c 1) zuc _ zuc-sound
-    (either (eqb c 2) rabbit _ rabbit-sound (either (eqb c 3) snow128 _ snow128-sound (either (eqb c 4) snow256 kcipher2 snow256-sound kcipher2-sound)))
+    (either (eqb c 2) rabbit _ rabbit-sound (either (eqb c 3) snow128 _ snow128-sound (either (eqb c 4) snow256 _ snow256-sound (either (eqb c 5) kcipher2 mugi kcipher2-sound mugi-sound))))

@@ -1,4 +1,4 @@
--- A state that a line can reach: twenty words, of which the cipher admits what it restricts.
+-- A state that a line can reach: all its words, of which the cipher admits what it restricts.
 -- Assumes nothing.
 use mathlib.Core.Path.{_≡_}
 use mathlib.Core.Bool.{true}
@@ -10,6 +10,6 @@ use Rattle.ciphers.specs.States.{stateWords}
 use Rattle.ciphers.specs.Table.{Cipher}
 
 pub record Fit (c : Cipher) (w : List ℕ) : Type 0 where
-  pub twenty : length w ≡ stateWords
+  pub full : length w ≡ stateWords
   pub words : All Word w
   pub admitted : c .admits w ≡ true

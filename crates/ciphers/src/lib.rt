@@ -1,4 +1,4 @@
-// Document 01's table of ciphers, by number, with states as twenty words: specs/ has the table, proofs/ what holds of each cipher, and the code here is the columns
+// Document 01's table of ciphers, by number, with states as thirty-eight words: specs/ has the table, proofs/ what holds of each cipher, and the code here is the columns
 // that the card reads.
 ghost use mathlib.Core.Path.{_≡_};
 ghost use Rattle.command.specs.Decode.{numberOf};
@@ -15,6 +15,7 @@ pub fn number_of(c: Cipher) -> u8
         Cipher::Snow128 => 3,
         Cipher::Snow256 => 4,
         Cipher::Kcipher2 => 5,
+        Cipher::Mugi => 6,
     }
 }
 
@@ -28,6 +29,7 @@ pub fn key_of(c: Cipher) -> usize
         Cipher::Snow128 => 16,
         Cipher::Snow256 => 32,
         Cipher::Kcipher2 => 16,
+        Cipher::Mugi => 16,
     }
 }
 
@@ -41,6 +43,7 @@ pub fn iv_of(c: Cipher) -> usize
         Cipher::Snow128 => 16,
         Cipher::Snow256 => 16,
         Cipher::Kcipher2 => 16,
+        Cipher::Mugi => 16,
     }
 }
 
@@ -53,6 +56,7 @@ pub fn unit_of(c: u8) -> usize
         2 => 16,
         3 => 4,
         4 => 4,
+        5 => 8,
         _ => 8,
     }
 }

@@ -7,7 +7,7 @@ use lib.Dec.{ltb, eqb}
 use lib.ListN.{length, getD}
 use Rattle.words.specs.Tests.{pick}
 use Rattle.command.specs.declared.Cipher.{Cipher}
-use Rattle.command.specs.declared.Cipher.the-variants.{Zuc, Rabbit, Snow128, Snow256, Kcipher2}
+use Rattle.command.specs.declared.Cipher.the-variants.{Zuc, Rabbit, Snow128, Snow256, Kcipher2, Mugi}
 use Rattle.command.specs.declared.CipherRead.{CipherRead}
 use Rattle.command.specs.declared.CipherRead.the-variants.{Is, Unknown}
 use Rattle.command.specs.declared.Command.{Command}
@@ -15,11 +15,11 @@ use Rattle.command.specs.declared.Command.the-variants.{Tray, Own, Crypt
 use Rattle.command.specs.declared.Decoded.{Decoded}
 use Rattle.command.specs.declared.Decoded.the-variants.{Run, Refused}
 
--- the cipher of a number from 1 to 5
+-- the cipher of a number from 1 to 6
 unfoldable pub readOf : ℕ → CipherRead
 readOf b =
     pick (eqb b 1) (Is Zuc)
-    (pick (eqb b 2) (Is Rabbit) (pick (eqb b 3) (Is Snow128) (pick (eqb b 4) (Is Snow256) (pick (eqb b 5) (Is Kcipher2) Unknown))))
+    (pick (eqb b 2) (Is Rabbit) (pick (eqb b 3) (Is Snow128) (pick (eqb b 4) (Is Snow256) (pick (eqb b 5) (Is Kcipher2) (pick (eqb b 6) (Is Mugi) Unknown)))))
 
 -- the number of a cipher
 abbrev pub numberOf : Cipher → ℕ
@@ -28,13 +28,14 @@ numberOf Rabbit = 2
 numberOf Snow128 = 3
 numberOf Snow256 = 4
 numberOf Kcipher2 = 5
+numberOf Mugi = 6
 
 -- the length of a command by its first byte, and 0 where that is not 01 to 06
 unfoldable pub lengthOf : ℕ → ℕ
 lengthOf k =
-    pick (eqb k 1) 20 (pick (eqb k 2) 51 (pick (eqb k 3) 4 (pick (eqb k 4) 2 (pick (eqb k 5) 91 (pick (eqb k 6) 2 0)))))
+    pick (eqb k 1) 20 (pick (eqb k 2) 51 (pick (eqb k 3) 4 (pick (eqb k 4) 2 (pick (eqb k 5) 163 (pick (eqb k 6) 2 0)))))
 
--- number 4: a cipher that is not 1 to 5
+-- number 4: a cipher that is not 1 to 6
 abbrev pub withCipher : CipherRead → (Cipher → Decoded) → Decoded
 withCipher (Is c) f = f c
 withCipher Unknown f = Refused 4

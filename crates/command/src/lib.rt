@@ -11,6 +11,7 @@ pub enum Cipher {
     Snow128,
     Snow256,
     Kcipher2,
+    Mugi,
 }
 
 pub enum CipherRead {
@@ -42,7 +43,7 @@ pub const CRYPT: usize = 4;
 
 pub const PARK: usize = 2;
 
-pub const RESUME: usize = 91;
+pub const RESUME: usize = 163;
 
 pub const CLOSE: usize = 2;
 
@@ -62,6 +63,7 @@ pub fn read_cipher(b: u8) -> CipherRead
         3 => CipherRead::Is(Cipher::Snow128),
         4 => CipherRead::Is(Cipher::Snow256),
         5 => CipherRead::Is(Cipher::Kcipher2),
+        6 => CipherRead::Is(Cipher::Mugi),
         _ => CipherRead::Unknown,
     }
 }

@@ -25,14 +25,19 @@ use Rattle.kcipher2.specs.Cipher as K
 use Rattle.kcipher2.specs.Range as KR
 use Rattle.kcipher2.specs.declared.Kcipher2.{Kcipher2}
 use Rattle.kcipher2.proofs.Ranges as KL
+use Rattle.mugi.specs.Cipher as M
+use Rattle.mugi.specs.Range as MR
+use Rattle.mugi.specs.declared.Mugi.{Mugi}
+use Rattle.mugi.proofs.Ranges as ML
 use Rattle.crypt_zuc.specs.Generator.{gen as zucGen}
 use Rattle.rabbit.specs.Generator.{gen as rabbitGen}
 use Rattle.crypt_snow2.specs.Generator.{gen as snow2Gen}
 use Rattle.kcipher2.specs.Generator.{gen as kcipher2Gen}
-use Rattle.ciphers.specs.States.{zucWords, zucState, rabbitWords, rabbitState, snow2Words, snow2State, kcipher2Words, kcipher2State}
-use Rattle.ciphers.specs.Table.{zuc, rabbit, snow128, kcipher2}
+use Rattle.crypt_mugi.specs.Generator.{gen as mugiGen}
+use Rattle.ciphers.specs.States.{zucWords, zucState, rabbitWords, rabbitState, snow2Words, snow2State, kcipher2Words, kcipher2State, mugiWords, mugiState}
+use Rattle.ciphers.specs.Table.{zuc, rabbit, snow128, kcipher2, mugi}
 use Rattle.ciphers.specs.Fit.{Fit}
-use Rattle.ciphers.proofs.States.{zuc-back, zuc-range, zuc-held, rabbit-back, rabbit-range, rabbit-held, snow2-back, snow2-range, snow2-held, kcipher2-back, kcipher2-range, kcipher2-held}
+use Rattle.ciphers.proofs.States.{zuc-back, zuc-range, zuc-held, rabbit-back, rabbit-range, rabbit-held, snow2-back, snow2-range, snow2-held, kcipher2-back, kcipher2-range, kcipher2-held, mugi-back, mugi-range, mugi-held}
 
 -- what a crypt gives, as two equations
 abbrev pub Gives : {S : Type 0} → Gen S → S → ℕ → List ℕ → List ℕ → S → List ℕ → Type 0
@@ -81,7 +86,7 @@ unfolding snow128 snow2Gen
 snow2-along skip text out {w} h q q' d =
     gives-along snow2Gen (snow128 .gen) snow2Words SR.InRange SL.next-range refl
     (λ s r. ap (λ (x : Snow2). snow2Words (S.next x)) (sym (snow2-back s (r .sixteen)))) (λ s r. ap S.unit (sym (snow2-back s (r .sixteen)))) skip text out
-    (snow2-range w (h .twenty) (h .words)) (snow2-held w (h .twenty) (h .admitted)) q q' d
+    (snow2-range w (h .full) (h .words)) (snow2-held w (h .full) (h .admitted)) q q' d
 
 pub kcipher2-along : (skip : ℕ) (text out : List ℕ) {w w' : List ℕ} {s s' : Kcipher2} {out' : List ℕ} → Fit kcipher2 w → s ≡ kcipher2State w → w' ≡ kcipher2Words s'
     → Gives kcipher2Gen s skip text out s' out' → Gives (kcipher2 .gen) w skip text out w' out'
@@ -89,7 +94,15 @@ unfolding kcipher2 kcipher2Gen
 kcipher2-along skip text out {w} h q q' d =
     gives-along kcipher2Gen (kcipher2 .gen) kcipher2Words KR.InRange KL.next-range refl
     (λ s r. ap (λ (x : Kcipher2). kcipher2Words (K.next x)) (sym (kcipher2-back s (r .five) (r .eleven)))) (λ s r. ap K.unit (sym (kcipher2-back s (r .five) (r .eleven)))) skip text out
-    (kcipher2-range w (h .twenty) (h .words)) (kcipher2-held w (h .twenty)) q q' d
+    (kcipher2-range w (h .full) (h .words)) (kcipher2-held w (h .full) (h .admitted)) q q' d
+
+pub mugi-along : (skip : ℕ) (text out : List ℕ) {w w' : List ℕ} {s s' : Mugi} {out' : List ℕ} → Fit mugi w → s ≡ mugiState w → w' ≡ mugiWords s'
+    → Gives mugiGen s skip text out s' out' → Gives (mugi .gen) w skip text out w' out'
+unfolding mugi mugiGen
+mugi-along skip text out {w} h q q' d =
+    gives-along mugiGen (mugi .gen) mugiWords MR.InRange ML.next-range refl
+    (λ s r. ap (λ (x : Mugi). mugiWords (M.next x)) (sym (mugi-back s (r .three) (r .sixteen)))) (λ s r. ap M.unit (sym (mugi-back s (r .three) (r .sixteen)))) skip text out
+    (mugi-range w (h .words)) (mugi-held w (h .full) (h .words)) q q' d
 
 -- the carry after a crypt is 0 or 1
 pub rabbit-carry : (skip : ℕ) (text out : List ℕ) {w : List ℕ} {s s' : Rabbit} {out' : List ℕ} → Fit rabbit w → s ≡ rabbitState w → Gives rabbitGen s skip text out s' out' → s' .b ≤ 1

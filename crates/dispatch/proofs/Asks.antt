@@ -4,12 +4,14 @@ use mathlib.Core.Path.{_≡_, sym, subst}
 use mathlib.Core.List.{List}
 use mathlib.Core.Bool.{true}
 use Prim.Native.Nat.{ℕ, _≤_, _<_}
+use lib.ListN.{length}
+use Rattle.ciphers.specs.States.{stateWords}
 use Rattle.ciphers.specs.Table.{Cipher}
 use Rattle.dispatch.proofs.Along.{Gives}
 
 -- what a crypt asks of its caller
 abbrev pub Asks : Cipher → List ℕ → ℕ → ℕ → ℕ → Type 0
-Asks d w skip m k = (d .admits w ≡ true) × ((skip < d .gen .unit) × (m ≤ k))
+Asks d w skip m k = ((length w ≡ stateWords) × (d .admits w ≡ true)) × ((skip < d .gen .unit) × (m ≤ k))
 
 pub asks : {d d' : Cipher} {w : List ℕ} {skip m k : ℕ} → d ≡ d' → Asks d w skip m k → Asks d' w skip m k
 asks {w = w} {skip = skip} {m = m} {k = k} e h = subst (λ (x : Cipher). Asks x w skip m k) e h

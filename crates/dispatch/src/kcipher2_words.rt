@@ -5,12 +5,13 @@ ghost use mathlib.Core.List.{_++_};
 ghost use Prim.Native.Nat.{_+_, _/_, _<_, _≤_};
 ghost use lib.ListN.{length, drop};
 ghost use Rattle.keystream.specs.Stream.{stateAt, byteAt, xorFrom};
-ghost use Rattle.ciphers.specs.States.{kcipher2Words, kcipher2State};
+ghost use Rattle.ciphers.specs.States.{stateWords, kcipher2Words, kcipher2State};
 ghost use Rattle.ciphers.specs.Table.{kcipher2};
 use kcipher2::Kcipher2;
+use line::state_of;
 
-// The state that twenty words hold.
-fn state(w: [u32; 20]) -> Kcipher2
+// The state that a line's words hold.
+fn state(w: [u32; 38]) -> Kcipher2
     ensures { λ r. ⌜ r ≡ kcipher2State w ⌝ }
 {
     let a = [w[0], w[1], w[2], w[3], w[4]];
@@ -37,8 +38,8 @@ fn state(w: [u32; 20]) -> Kcipher2
     }
 }
 
-// The words of a state.
-fn words(s: Kcipher2) -> [u32; 20]
+// The words of a state, zeros after them.
+fn words(s: Kcipher2) -> [u32; 38]
     ensures { λ r. ⌜ r ≡ kcipher2Words s ⌝ }
 {
     let a = s.a;
@@ -64,11 +65,29 @@ fn words(s: Kcipher2) -> [u32; 20]
         s.l1,
         s.r2,
         s.l2,
+        0,
+        0,
+        0,
+        0,
+        0,
+        0,
+        0,
+        0,
+        0,
+        0,
+        0,
+        0,
+        0,
+        0,
+        0,
+        0,
+        0,
+        0,
     ]
 }
 
 // S(0) of key and IV.
-pub fn open(key: &[u8], iv: &[u8]) -> [u32; 20]
+pub fn open(key: &[u8], iv: &[u8]) -> [u32; 38]
     requires { ⌜ length (now key) ≡ 16 ⌝ }
     requires { ⌜ length (now iv) ≡ 16 ⌝ }
     ensures { λ r. ⌜ r ≡ kcipher2 .init (now (key .entry)) (now (iv .entry)) ⌝ }
@@ -81,12 +100,15 @@ pub fn open(key: &[u8], iv: &[u8]) -> [u32; 20]
     words(Kcipher2::init(key, iv, &m0, &m1, &m2, &m3, &t))
 }
 
-// The text goes to the start of out, XORed with the keystream from byte skip of the unit of the words' state on; the words that come back hold the state
-// of the unit in which the next byte lies.
-pub fn crypt(w: [u32; 20], skip: usize, text: &[u8], out: &mut [u8]) -> [u32; 20]
-    requires { ⌜ kcipher2 .admits w ≡ true ⌝ }
+// The text goes to the start of out, XORed with the keystream from byte skip of the unit of the words' state on; w then holds the state of the unit in which
+// the next byte lies.
+pub fn crypt(w: &mut [u32], skip: usize, text: &[u8], out: &mut [u8])
+    requires { ⌜ (length (now w) ≡ stateWords) × (kcipher2 .admits (now w) ≡ true) ⌝ }
     requires { ⌜ (skip < 8) × (length (now text) ≤ length (now out)) ⌝ }
-    ensures { λ r. ⌜ (r ≡ stateAt (kcipher2 .gen) w 0 ((skip + length (now (text .entry))) / 8)) × (now (out .exit) ≡ xorFrom (byteAt (kcipher2 .gen) w 0) skip (now (text .entry)) ++ drop (length (now (text .entry))) (now (out .entry))) ⌝ }
+    ensures { λ _. ⌜ (now (w .exit) ≡ stateAt (kcipher2 .gen) (now (w .entry)) 0 ((skip + length (now (text .entry))) / 8)) × (now (out .exit) ≡ xorFrom (byteAt (kcipher2 .gen) (now (w .entry)) 0) skip (now (text .entry)) ++ drop (length (now (text .entry))) (now (out .entry))) ⌝ }
 {
-    words(crypt_kcipher2::crypt(state(w), skip, text, out))
+    let before = state(state_of(w));
+    let after = crypt_kcipher2::crypt(before, skip, text, out);
+    let held = words(after);
+    buffer::put_words(&held, w);
 }

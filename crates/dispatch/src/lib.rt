@@ -1,6 +1,7 @@
-// What a line does by its cipher: S(0) of key and IV, and a crypt from a byte of a unit on, each over the line's twenty words.
+// What a line does by its cipher: S(0) of key and IV, and a crypt from a byte of a unit on, each over the line's words.
 // A caller holds the lengths of key and IV, a state that the cipher admits, a place within a unit, and a buffer as long as the text.
 mod kcipher2_words;
+mod mugi_words;
 mod rabbit_words;
 mod snow2_words;
 mod zuc_words;
@@ -11,12 +12,13 @@ ghost use mathlib.Core.List.{_++_};
 ghost use Prim.Native.Nat.{_+_, _/_, _<_, _≤_};
 ghost use lib.ListN.{length, drop};
 ghost use Rattle.keystream.specs.Stream.{stateAt, byteAt, xorFrom};
+ghost use Rattle.ciphers.specs.States.{stateWords};
 ghost use Rattle.ciphers.specs.Table.{cipherAt};
 ghost use Rattle.command.specs.Decode.{numberOf};
 use command::Cipher;
 
 // S(0) of key and IV.
-pub fn open(c: Cipher, key: &[u8], iv: &[u8]) -> [u32; 20]
+pub fn open(c: Cipher, key: &[u8], iv: &[u8]) -> [u32; 38]
     requires { ⌜ length (now key) ≡ cipherAt (numberOf c) .key ⌝ }
     requires { ⌜ length (now iv) ≡ cipherAt (numberOf c) .iv ⌝ }
     ensures { λ r. ⌜ r ≡ cipherAt (numberOf c) .init (now (key .entry)) (now (iv .entry)) ⌝ }
@@ -27,21 +29,23 @@ pub fn open(c: Cipher, key: &[u8], iv: &[u8]) -> [u32; 20]
         Cipher::Snow128 => snow2_words::open128(key, iv),
         Cipher::Snow256 => snow2_words::open256(key, iv),
         Cipher::Kcipher2 => kcipher2_words::open(key, iv),
+        Cipher::Mugi => mugi_words::open(key, iv),
     }
 }
 
-// The text goes to the start of out, XORed with the keystream from byte skip of the unit of the words' state on; the words that come back hold the state of the
-// unit in which the next byte lies.
-pub fn crypt(c: u8, w: [u32; 20], skip: usize, text: &[u8], out: &mut [u8]) -> [u32; 20]
-    requires { ⌜ cipherAt c .admits w ≡ true ⌝ }
+// The text goes to the start of out, XORed with the keystream from byte skip of the unit of the words' state on; w then holds the state of the unit in which
+// the next byte lies.
+pub fn crypt(c: u8, w: &mut [u32], skip: usize, text: &[u8], out: &mut [u8])
+    requires { ⌜ (length (now w) ≡ stateWords) × (cipherAt c .admits (now w) ≡ true) ⌝ }
     requires { ⌜ (skip < cipherAt c .gen .unit) × (length (now text) ≤ length (now out)) ⌝ }
-    ensures { λ r. ⌜ (r ≡ stateAt (cipherAt c .gen) w 0 ((skip + length (now (text .entry))) / cipherAt c .gen .unit)) × (now (out .exit) ≡ xorFrom (byteAt (cipherAt c .gen) w 0) skip (now (text .entry)) ++ drop (length (now (text .entry))) (now (out .entry))) ⌝ }
+    ensures { λ _. ⌜ (now (w .exit) ≡ stateAt (cipherAt c .gen) (now (w .entry)) 0 ((skip + length (now (text .entry))) / cipherAt c .gen .unit)) × (now (out .exit) ≡ xorFrom (byteAt (cipherAt c .gen) (now (w .entry)) 0) skip (now (text .entry)) ++ drop (length (now (text .entry))) (now (out .entry))) ⌝ }
 {
     match c {
         1 => zuc_words::crypt(w, skip, text, out),
         2 => rabbit_words::crypt(w, skip, text, out),
         3 => snow2_words::crypt(w, skip, text, out),
         4 => snow2_words::crypt(w, skip, text, out),
-        _ => kcipher2_words::crypt(w, skip, text, out),
+        5 => kcipher2_words::crypt(w, skip, text, out),
+        _ => mugi_words::crypt(w, skip, text, out),
     }
 }

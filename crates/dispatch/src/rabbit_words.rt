@@ -5,12 +5,13 @@ ghost use mathlib.Core.List.{_++_};
 ghost use Prim.Native.Nat.{_+_, _/_, _<_, _≤_};
 ghost use lib.ListN.{length, drop};
 ghost use Rattle.keystream.specs.Stream.{stateAt, byteAt, xorFrom};
-ghost use Rattle.ciphers.specs.States.{rabbitWords, rabbitState};
+ghost use Rattle.ciphers.specs.States.{stateWords, rabbitWords, rabbitState};
 ghost use Rattle.ciphers.specs.Table.{rabbit};
+use line::state_of;
 use rabbit::Rabbit;
 
-// The state that twenty words hold.
-fn state(w: [u32; 20]) -> Rabbit
+// The state that a line's words hold.
+fn state(w: [u32; 38]) -> Rabbit
     ensures { λ r. ⌜ r ≡ rabbitState w ⌝ }
 {
     let x = [w[0], w[1], w[2], w[3], w[4], w[5], w[6], w[7]];
@@ -23,7 +24,7 @@ fn state(w: [u32; 20]) -> Rabbit
 }
 
 // The words of a state whose carry fits a byte, zeros after them.
-fn words(s: Rabbit) -> [u32; 20]
+fn words(s: Rabbit) -> [u32; 38]
     requires { ⌜ s .b ≤ 1 ⌝ }
     ensures { λ r. ⌜ r ≡ rabbitWords s ⌝ }
 {
@@ -51,11 +52,29 @@ fn words(s: Rabbit) -> [u32; 20]
         0,
         0,
         0,
+        0,
+        0,
+        0,
+        0,
+        0,
+        0,
+        0,
+        0,
+        0,
+        0,
+        0,
+        0,
+        0,
+        0,
+        0,
+        0,
+        0,
+        0,
     ]
 }
 
 // S(0) of key and IV.
-pub fn open(key: &[u8], iv: &[u8]) -> [u32; 20]
+pub fn open(key: &[u8], iv: &[u8]) -> [u32; 38]
     requires { ⌜ length (now key) ≡ 16 ⌝ }
     requires { ⌜ length (now iv) ≡ 8 ⌝ }
     ensures { λ r. ⌜ r ≡ rabbit .init (now (key .entry)) (now (iv .entry)) ⌝ }
@@ -63,12 +82,15 @@ pub fn open(key: &[u8], iv: &[u8]) -> [u32; 20]
     words(Rabbit::init(key, iv))
 }
 
-// The text goes to the start of out, XORed with the keystream from byte skip of the unit of the words' state on; the words that come back hold the state
-// of the unit in which the next byte lies.
-pub fn crypt(w: [u32; 20], skip: usize, text: &[u8], out: &mut [u8]) -> [u32; 20]
-    requires { ⌜ rabbit .admits w ≡ true ⌝ }
+// The text goes to the start of out, XORed with the keystream from byte skip of the unit of the words' state on; w then holds the state of the unit in which
+// the next byte lies.
+pub fn crypt(w: &mut [u32], skip: usize, text: &[u8], out: &mut [u8])
+    requires { ⌜ (length (now w) ≡ stateWords) × (rabbit .admits (now w) ≡ true) ⌝ }
     requires { ⌜ (skip < 16) × (length (now text) ≤ length (now out)) ⌝ }
-    ensures { λ r. ⌜ (r ≡ stateAt (rabbit .gen) w 0 ((skip + length (now (text .entry))) / 16)) × (now (out .exit) ≡ xorFrom (byteAt (rabbit .gen) w 0) skip (now (text .entry)) ++ drop (length (now (text .entry))) (now (out .entry))) ⌝ }
+    ensures { λ _. ⌜ (now (w .exit) ≡ stateAt (rabbit .gen) (now (w .entry)) 0 ((skip + length (now (text .entry))) / 16)) × (now (out .exit) ≡ xorFrom (byteAt (rabbit .gen) (now (w .entry)) 0) skip (now (text .entry)) ++ drop (length (now (text .entry))) (now (out .entry))) ⌝ }
 {
-    words(crypt_rabbit::crypt(state(w), skip, text, out))
+    let before = state(state_of(w));
+    let after = crypt_rabbit::crypt(before, skip, text, out);
+    let held = words(after);
+    buffer::put_words(&held, w);
 }

@@ -5,12 +5,13 @@ ghost use mathlib.Core.List.{_++_};
 ghost use Prim.Native.Nat.{_+_, _/_, _<_, _≤_};
 ghost use lib.ListN.{length, drop};
 ghost use Rattle.keystream.specs.Stream.{stateAt, byteAt, xorFrom};
-ghost use Rattle.ciphers.specs.States.{snow2Words, snow2State};
+ghost use Rattle.ciphers.specs.States.{stateWords, snow2Words, snow2State};
 ghost use Rattle.ciphers.specs.Table.{snow128, snow256};
+use line::state_of;
 use snow2::Snow2;
 
-// The state that twenty words hold.
-fn state(w: [u32; 20]) -> Snow2
+// The state that a line's words hold.
+fn state(w: [u32; 38]) -> Snow2
     ensures { λ r. ⌜ r ≡ snow2State w ⌝ }
 {
     let s = [
@@ -39,7 +40,7 @@ fn state(w: [u32; 20]) -> Snow2
 }
 
 // The words of a state, zeros after them.
-fn words(st: Snow2) -> [u32; 20]
+fn words(st: Snow2) -> [u32; 38]
     ensures { λ r. ⌜ r ≡ snow2Words st ⌝ }
 {
     let s = st.s;
@@ -64,11 +65,29 @@ fn words(st: Snow2) -> [u32; 20]
         st.r2,
         0,
         0,
+        0,
+        0,
+        0,
+        0,
+        0,
+        0,
+        0,
+        0,
+        0,
+        0,
+        0,
+        0,
+        0,
+        0,
+        0,
+        0,
+        0,
+        0,
     ]
 }
 
 // S(0) of a key of 16 bytes and an IV.
-pub fn open128(key: &[u8], iv: &[u8]) -> [u32; 20]
+pub fn open128(key: &[u8], iv: &[u8]) -> [u32; 38]
     requires { ⌜ length (now key) ≡ 16 ⌝ }
     requires { ⌜ length (now iv) ≡ 16 ⌝ }
     ensures { λ r. ⌜ r ≡ snow128 .init (now (key .entry)) (now (iv .entry)) ⌝ }
@@ -80,7 +99,7 @@ pub fn open128(key: &[u8], iv: &[u8]) -> [u32; 20]
 }
 
 // S(0) of a key of 32 bytes and an IV.
-pub fn open256(key: &[u8], iv: &[u8]) -> [u32; 20]
+pub fn open256(key: &[u8], iv: &[u8]) -> [u32; 38]
     requires { ⌜ length (now key) ≡ 32 ⌝ }
     requires { ⌜ length (now iv) ≡ 16 ⌝ }
     ensures { λ r. ⌜ r ≡ snow256 .init (now (key .entry)) (now (iv .entry)) ⌝ }
@@ -91,12 +110,15 @@ pub fn open256(key: &[u8], iv: &[u8]) -> [u32; 20]
     words(Snow2::init256(key, iv, &a, &ai, &t))
 }
 
-// The text goes to the start of out, XORed with the keystream from byte skip of the unit of the words' state on; the words that come back hold the state
-// of the unit in which the next byte lies.
-pub fn crypt(w: [u32; 20], skip: usize, text: &[u8], out: &mut [u8]) -> [u32; 20]
-    requires { ⌜ snow128 .admits w ≡ true ⌝ }
+// The text goes to the start of out, XORed with the keystream from byte skip of the unit of the words' state on; w then holds the state of the unit in which
+// the next byte lies.
+pub fn crypt(w: &mut [u32], skip: usize, text: &[u8], out: &mut [u8])
+    requires { ⌜ (length (now w) ≡ stateWords) × (snow128 .admits (now w) ≡ true) ⌝ }
     requires { ⌜ (skip < 4) × (length (now text) ≤ length (now out)) ⌝ }
-    ensures { λ r. ⌜ (r ≡ stateAt (snow128 .gen) w 0 ((skip + length (now (text .entry))) / 4)) × (now (out .exit) ≡ xorFrom (byteAt (snow128 .gen) w 0) skip (now (text .entry)) ++ drop (length (now (text .entry))) (now (out .entry))) ⌝ }
+    ensures { λ _. ⌜ (now (w .exit) ≡ stateAt (snow128 .gen) (now (w .entry)) 0 ((skip + length (now (text .entry))) / 4)) × (now (out .exit) ≡ xorFrom (byteAt (snow128 .gen) (now (w .entry)) 0) skip (now (text .entry)) ++ drop (length (now (text .entry))) (now (out .entry))) ⌝ }
 {
-    words(crypt_snow2::crypt(state(w), skip, text, out))
+    let before = state(state_of(w));
+    let after = crypt_snow2::crypt(before, skip, text, out);
+    let held = words(after);
+    buffer::put_words(&held, w);
 }

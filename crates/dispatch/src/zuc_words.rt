@@ -5,12 +5,13 @@ ghost use mathlib.Core.List.{_++_};
 ghost use Prim.Native.Nat.{_+_, _/_, _<_, _≤_};
 ghost use lib.ListN.{length, drop};
 ghost use Rattle.keystream.specs.Stream.{stateAt, byteAt, xorFrom};
-ghost use Rattle.ciphers.specs.States.{zucWords, zucState};
+ghost use Rattle.ciphers.specs.States.{stateWords, zucWords, zucState};
 ghost use Rattle.ciphers.specs.Table.{zuc};
+use line::state_of;
 use zuc::Zuc;
 
-// The state that twenty words hold.
-fn state(w: [u32; 20]) -> Zuc
+// The state that a line's words hold.
+fn state(w: [u32; 38]) -> Zuc
     ensures { λ r. ⌜ r ≡ zucState w ⌝ }
 {
     let a = [
@@ -39,7 +40,7 @@ fn state(w: [u32; 20]) -> Zuc
 }
 
 // The words of a state, zeros after them.
-fn words(s: Zuc) -> [u32; 20]
+fn words(s: Zuc) -> [u32; 38]
     ensures { λ r. ⌜ r ≡ zucWords s ⌝ }
 {
     let a = s.a;
@@ -64,11 +65,29 @@ fn words(s: Zuc) -> [u32; 20]
         s.r2,
         0,
         0,
+        0,
+        0,
+        0,
+        0,
+        0,
+        0,
+        0,
+        0,
+        0,
+        0,
+        0,
+        0,
+        0,
+        0,
+        0,
+        0,
+        0,
+        0,
     ]
 }
 
 // S(0) of key and IV.
-pub fn open(key: &[u8], iv: &[u8]) -> [u32; 20]
+pub fn open(key: &[u8], iv: &[u8]) -> [u32; 38]
     requires { ⌜ length (now key) ≡ 16 ⌝ }
     requires { ⌜ length (now iv) ≡ 16 ⌝ }
     ensures { λ r. ⌜ r ≡ zuc .init (now (key .entry)) (now (iv .entry)) ⌝ }
@@ -78,12 +97,15 @@ pub fn open(key: &[u8], iv: &[u8]) -> [u32; 20]
     words(Zuc::init(key, iv, &t1, &t2))
 }
 
-// The text goes to the start of out, XORed with the keystream from byte skip of the unit of the words' state on; the words that come back hold the state
-// of the unit in which the next byte lies.
-pub fn crypt(w: [u32; 20], skip: usize, text: &[u8], out: &mut [u8]) -> [u32; 20]
-    requires { ⌜ zuc .admits w ≡ true ⌝ }
+// The text goes to the start of out, XORed with the keystream from byte skip of the unit of the words' state on; w then holds the state of the unit in which
+// the next byte lies.
+pub fn crypt(w: &mut [u32], skip: usize, text: &[u8], out: &mut [u8])
+    requires { ⌜ (length (now w) ≡ stateWords) × (zuc .admits (now w) ≡ true) ⌝ }
     requires { ⌜ (skip < 4) × (length (now text) ≤ length (now out)) ⌝ }
-    ensures { λ r. ⌜ (r ≡ stateAt (zuc .gen) w 0 ((skip + length (now (text .entry))) / 4)) × (now (out .exit) ≡ xorFrom (byteAt (zuc .gen) w 0) skip (now (text .entry)) ++ drop (length (now (text .entry))) (now (out .entry))) ⌝ }
+    ensures { λ _. ⌜ (now (w .exit) ≡ stateAt (zuc .gen) (now (w .entry)) 0 ((skip + length (now (text .entry))) / 4)) × (now (out .exit) ≡ xorFrom (byteAt (zuc .gen) (now (w .entry)) 0) skip (now (text .entry)) ++ drop (length (now (text .entry))) (now (out .entry))) ⌝ }
 {
-    words(crypt_zuc::crypt(state(w), skip, text, out))
+    let before = state(state_of(w));
+    let after = crypt_zuc::crypt(before, skip, text, out);
+    let held = words(after);
+    buffer::put_words(&held, w);
 }

@@ -7,7 +7,7 @@ use Prim.Native.Nat.{ℕ, _≤_}
 use native.Mathlib.Omega.{arith}
 use lib.Dec.{lit≤}
 use Rattle.ciphers.specs.Fit.{Fit}
-use Rattle.ciphers.specs.Table.{cipherAt, zuc, rabbit, snow128, snow256, kcipher2}
+use Rattle.ciphers.specs.Table.{cipherAt, zuc, rabbit, snow128, snow256, kcipher2, mugi}
 use Rattle.command.specs.Decode.{lengthOf}
 use Rattle.machine.specs.Machine.{MLine, shown, based, imageOf, imageLine, byteOf, limit, decided, refuseIf, spareUsed}
 use Rattle.machine.specs.OneStream.{GoesOn}
@@ -17,7 +17,7 @@ use Rattle.machine.proofs.OneStream.{sized}
 use Rattle.edges.specs.Table.{Row, table, crypting, parking, opening}
 
 pub edges : map (λ (r : Row). r .computed) table ≡ map (λ (r : Row). r .stated) table
-unfolding table crypting parking opening decided refuseIf lengthOf spareUsed cipherAt zuc rabbit snow128 snow256 kcipher2
+unfolding table crypting parking opening decided refuseIf lengthOf spareUsed cipherAt zuc rabbit snow128 snow256 kcipher2 mugi
 edges = refl
 
 -- ZUC, whose unit is four bytes, at position n of the stream of S(0) = w

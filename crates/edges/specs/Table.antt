@@ -59,8 +59,8 @@ table =
     ∷ (crypting 0 5 5 4 is 12)
     ∷ (crypting 0 5 5 5 is 0)
     -- room for an image
-    ∷ (parking 88 is 12)
-    ∷ (parking 89 is 0)
+    ∷ (parking 160 is 12)
+    ∷ (parking 161 is 0)
     -- trays
     ∷ (opening 8192 255 is 0)
     ∷ (opening 8224 0 is 9)

@@ -58,7 +58,7 @@ words-all w before out i n f = f .is ∙ ap (λ (x : List ℕ). spelt x ++ drop 
 
 -- ---- an image, part by part: the cipher's byte, the two halves of n, the words
 
-module _ (l : Line) (before : List ℕ) (fits : 89 ≤ length before) where
+module _ (l : Line) (before : List ℕ) (fits : 161 ≤ length before) where
   abbrev out-1 : List ℕ
   out-1 = set before 0 (l .cipher)
 
@@ -79,16 +79,16 @@ module _ (l : Line) (before : List ℕ) (fits : 89 ≤ length before) where
       pub front-9 : Front (((l .cipher ∷ []) ++ bytesOf (l .n / 2 ^ 32)) ++ bytesOf (l .n % 2 ^ 32)) before out-9 9
       front-9 = front-word (l .n % 2 ^ 32) low (omega arith) front-5 low-is
 
-      module _ (rest : List ℕ) (twenty : length (l .words) ≡ 20) (rest-is : rest ≡ spelt (l .words) ++ drop 80 (take (length out-9 - 9) (drop 9 out-9))) where
-        abbrev out-89 : List ℕ
-        out-89 = putMid 9 (length out-9 - 9) out-9 rest
+      module _ (rest : List ℕ) (full : length (l .words) ≡ 38) (rest-is : rest ≡ spelt (l .words) ++ drop 152 (take (length out-9 - 9) (drop 9 out-9))) where
+        abbrev out-161 : List ℕ
+        out-161 = putMid 9 (length out-9 - 9) out-9 rest
 
-        pub front-89 : Front (imageOf l) before out-89 89
+        pub front-161 : Front (imageOf l) before out-161 161
         unfolding imageOf
-        front-89 =
-            let n : length (spelt (l .words)) ≡ 80 = spelt-length (l .words) ∙ ap (λ (k : ℕ). 4 * k) twenty in
+        front-161 =
+            let n : length (spelt (l .words)) ≡ 152 = spelt-length (l .words) ∙ ap (λ (k : ℕ). 4 * k) full in
             let high : List ℕ = bytesOf (l .n / 2 ^ 32) in
             let low : List ℕ = bytesOf (l .n % 2 ^ 32) in
             let e : (((l .cipher ∷ []) ++ high) ++ low) ++ spelt (l .words) ≡ imageOf l =
             append-assoc ((l .cipher ∷ []) ++ high) low (spelt (l .words)) ∙ append-assoc (l .cipher ∷ []) high (low ++ spelt (l .words)) in
-            rw (sym e) (front-more (spelt (l .words)) rest 80 n fits front-9 rest-is)
+            rw (sym e) (front-more (spelt (l .words)) rest 152 n fits front-9 rest-is)

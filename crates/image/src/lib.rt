@@ -1,4 +1,4 @@
-// A line's image, written to the start of a buffer and read from one (document 01, "The card"): the cipher's byte, n in eight bytes, and the twenty words of the
+// A line's image, written to the start of a buffer and read from one (document 01, "The card"): the cipher's byte, n in eight bytes, and the thirty-eight words of the
 // state with the zeros after it.
 // A caller holds that the buffer has an image's length.
 ghost use mathlib.Core.Path.{_≡_};
@@ -10,7 +10,7 @@ ghost use Rattle.machine.specs.Machine.{spelt, imageOf, imageLine, imageLength}
 use line::Line;
 
 // The length of an image.
-pub const LENGTH: usize = 89;
+pub const LENGTH: usize = 161;
 
 // The bytes of w go to the start of out.
 fn put_word(w: u32, out: &mut [u8])
@@ -24,13 +24,13 @@ fn put_word(w: u32, out: &mut [u8])
     out[3] = b[3];
 }
 
-// The bytes of twenty words go to the start of out.
-fn put_words(w: [u32; 20], out: &mut [u8])
-    requires { ⌜ 80 ≤ length (now out) ⌝ }
-    ensures { λ _. ⌜ now (out .exit) ≡ spelt w ++ drop 80 (now (out .entry)) ⌝ }
+// The bytes of a state's words go to the start of out.
+fn put_words(w: [u32; 38], out: &mut [u8])
+    requires { ⌜ 152 ≤ length (now out) ⌝ }
+    ensures { λ _. ⌜ now (out .exit) ≡ spelt w ++ drop 152 (now (out .entry)) ⌝ }
 {
     let mut i: usize = 0;
-    while i < 20 {
+    while i < 38 {
         let x = w[i];
         let at = 4 * i;
         put_word(x, &mut out[at..]);
@@ -53,14 +53,14 @@ pub fn put(l: Line, out: &mut [u8])
     put_words(w, &mut out[9..]);
 }
 
-// The twenty words of an image.
-fn words_in(s: &[u8]) -> [u32; 20]
+// The words of an image.
+fn words_in(s: &[u8]) -> [u32; 38]
     requires { ⌜ imageLength ≤ length (now s) ⌝ }
     ensures { λ r. ⌜ r ≡ imageLine (now (s .entry)) .words ⌝ }
 {
-    let mut w = [0u32; 20];
+    let mut w = [0u32; 38];
     let mut i: usize = 0;
-    while i < 20 {
+    while i < 38 {
         w[i] = words::word_at(s, 9 + 4 * i);
         i += 1;
     }

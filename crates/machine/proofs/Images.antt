@@ -52,7 +52,7 @@ tab-same (suc n) f g h = ap₂ _∷_ (h zero (omega arith)) (tab-same n (λ i. f
 pub record Sized (l : Line) : Type 0 where
   pub up : l .mode ≡ 1
   pub pos : l .n < 2 ^ 64
-  pub twenty : length (l .words) ≡ stateWords
+  pub full : length (l .words) ≡ stateWords
   pub words : All Word (l .words)
 
 -- an image says exactly its line
@@ -63,14 +63,14 @@ image-back l s =
     let lo : ℕ = l .n % 2 ^ 32 in
     let ws : List ℕ = hi ∷ lo ∷ l .words in
     let all : All Word ws = more {x = hi} (omega (arith, s .pos)) (more {x = lo} (omega arith) (s .words)) in
-    let len = s .twenty in
+    let len = s .full in
     let n : wordAt (imageOf l) 1 * 2 ^ 32 + wordAt (imageOf l) 5 ≡ l .n =
     ap₂ (λ (x y : ℕ). x * 2 ^ 32 + y) (image-word (l .cipher) ws 1 0 refl all (omega arith)) (image-word (l .cipher) ws 5 1 refl all (omega arith))
     ∙ div-add-mod' (l .n) (2 ^ 32) in
-    let w : tab 20 (λ i. wordAt (imageOf l) (9 + 4 * i)) ≡ l .words =
-    tab-same 20 (λ i. wordAt (imageOf l) (9 + 4 * i)) (λ i. getD (l .words) i 0)
+    let w : tab 38 (λ i. wordAt (imageOf l) (9 + 4 * i)) ≡ l .words =
+    tab-same 38 (λ i. wordAt (imageOf l) (9 + 4 * i)) (λ i. getD (l .words) i 0)
     (λ i q. image-word (l .cipher) ws (9 + 4 * i) (suc (suc i)) (omega arith) all (omega arith))
-    ∙ sym (listed 20 (l .words) len) in
+    ∙ sym (listed 38 (l .words) len) in
     λ j. record { mode = sym (s .up) j; cipher = l .cipher; n = n j; words = w j }
 
 -- a line that starts anew from what is seen of it goes on where the line stands

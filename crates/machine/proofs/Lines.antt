@@ -15,7 +15,7 @@ use Rattle.words.specs.Tests.{both, pick}
 use Rattle.words.proofs.Ranges.{iter-keeps, all-tab, all-drop, wordAt-word}
 use Rattle.keystream.specs.Stream.{stateAt}
 use Rattle.keystream.proofs.Laws.{stateAt-here, stateAt-rebase, xorFrom-rebase, div-mono}
-use Rattle.ciphers.specs.Table.{cipherAt, isCipher, kcipher2}
+use Rattle.ciphers.specs.Table.{cipherAt, isCipher, mugi}
 use Rattle.ciphers.specs.Fit.{Fit}
 use Rattle.ciphers.proofs.Tests.{both-left, both-right, both-true}
 use Rattle.ciphers.proofs.Sound.{sound}
@@ -33,7 +33,7 @@ pub data Good : MLine → Type 0 where
 -- ---- what is seen of a line
 
 pub shown-idle : shown idle ≡ idleLine
-unfolding shown stateOf unitAt stateAt iter cipherAt kcipher2
+unfolding shown stateOf unitAt stateAt iter cipherAt mugi
 shown-idle = refl
 
 pub shown-based : (l : Line) → shown (based l) ≡ l
@@ -79,10 +79,10 @@ pub opened-good : (c : ℕ) (key iv : List ℕ) → isCipher c ≡ true → All 
 unfolding opened unitAt
 opened-good c key iv h hk hv = good-open {l = opened c key iv} refl h (omega arith) (omega arith) (sound c .init-fit key iv hk hv)
 
--- twenty words of an image of bytes
+-- the words of an image of bytes
 image-words : (img : List ℕ) → All Byte img → All Word (imageLine img .words)
 unfolding imageLine
-image-words img h = all-tab 20 (λ i. wordAt img (9 + 4 * i)) (λ i q. wordAt-word h (9 + 4 * i))
+image-words img h = all-tab 38 (λ i. wordAt img (9 + 4 * i)) (λ i q. wordAt-word h (9 + 4 * i))
 
 pub resumed-good : (command : List ℕ) → All Byte command → openOk (imageLine (imageIn command)) ≡ true → Good (based (imageLine (imageIn command)))
 unfolding openOk based unitAt imageLine
@@ -92,8 +92,8 @@ resumed-good command h ok =
     let r = both-right (isCipher (l .cipher)) _ ok in
     good-open {l = based l} refl c (leb-true (l .n) limit (both-left (leb (l .n) limit) _ r)) (omega arith)
     (record {
-      twenty = refl;
-      words = image-words (imageIn command) (all-take 89 (all-drop 2 h));
+      full = refl;
+      words = image-words (imageIn command) (all-take 161 (all-drop 2 h));
       admitted = both-right (leb (l .n) limit) _ r;
     })
 

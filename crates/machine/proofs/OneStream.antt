@@ -113,7 +113,7 @@ unfolding shown
 sized l good-idle e = absurd (let z : _≡_ {A = ℕ} 0 1 = e in omega arith)
 sized l (good-open m c p b f) e =
     let w = state-fit l (unitAt l) f in
-    record { up = e; pos = omega (arith, p); twenty = w .twenty; words = w .words }
+    record { up = e; pos = omega (arith, p); full = w .full; words = w .words }
 
 -- ---- one call, by what it did
 

@@ -10,10 +10,10 @@ use lib.ListN.{length, getD, take, set, replicate}
 use borrow.Author.Tests.{ltb-false, eqb-true, not-false}
 use Rattle.words.specs.Tests.{pick}
 use Rattle.words.proofs.Ranges.{all-drop}
-use Rattle.ciphers.specs.Table.{isCipher, cipherAt, kcipher2}
+use Rattle.ciphers.specs.Table.{isCipher, cipherAt, mugi}
 use Rattle.ciphers.proofs.States.{all-take}
 use Rattle.command.specs.declared.Cipher.{Cipher}
-use Rattle.command.specs.declared.Cipher.the-variants.{Zuc, Rabbit, Snow128, Snow256, Kcipher2}
+use Rattle.command.specs.declared.Cipher.the-variants.{Zuc, Rabbit, Snow128, Snow256, Kcipher2, Mugi}
 use Rattle.command.specs.declared.Command.{Command}
 use Rattle.command.specs.declared.Command.the-variants.{Tray, Own, Crypt, Park, Resume, Close}
 use Rattle.command.specs.declared.Decoded.{Decoded}
@@ -68,6 +68,7 @@ known Rabbit = refl
 known Snow128 = refl
 known Snow256 = refl
 known Kcipher2 = refl
+known Mugi = refl
 
 module _ (m : Machine) (a : Call) where
   pub is-open : (i : ℕ) → not (isOpen (public m) i) ≡ false → lineAt m i .mode ≡ 1
@@ -115,7 +116,7 @@ map-set f (x ∷ xs) zero y = refl
 map-set f (x ∷ xs) (suc i) y = ap (_∷_ (f x)) (map-set f xs i y)
 
 based-idle : based (shown idle) ≡ idle
-unfolding based cipherAt kcipher2
+unfolding based cipherAt mugi
 based-idle = ap based shown-idle
 
 get-same : (ls : List MLine) (i : ℕ) → getD (map based (map shown ls)) i idle ≡ based (shown (getD ls i idle))

@@ -31,7 +31,7 @@ pub record MLine : Type 0 where
   pub pos : ℕ
 
 abbrev pub zeros : List ℕ
-zeros = replicate 20 0
+zeros = replicate stateWords 0
 
 abbrev pub idle : MLine
 idle = record { mode = 0; cipher = 0; base = zeros; from = 0; pos = 0 }
@@ -74,10 +74,10 @@ moved l k = record { mode = l .mode; cipher = l .cipher; base = l .base; from = 
 unfoldable pub opened : ℕ → List ℕ → List ℕ → MLine
 opened c key iv = record { mode = 1; cipher = c; base = cipherAt c .init key iv; from = 0; pos = 0 }
 
--- ---- images: cipher 1, n in 8 bytes, the state, zeros to 89 bytes
+-- ---- images: cipher 1, n in 8 bytes, the state, zeros to 161 bytes
 
 abbrev pub imageLength : ℕ
-imageLength = 89
+imageLength = 161
 
 -- words one after the other, most significant byte first
 abbrev pub spelt : List ℕ → List ℕ

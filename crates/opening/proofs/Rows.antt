@@ -8,10 +8,10 @@ use lib.Dec.{leb, eqb, lit≤}
 use lib.ListN.{take, drop}
 use borrow.Author.Tests.{lt-leb, le-leb, eq-eqb, ne-eqb}
 use Rattle.words.specs.Tests.{both}
-use Rattle.ciphers.specs.Table.{cipherAt, zuc, rabbit, snow128, snow256, kcipher2, allZero}
+use Rattle.ciphers.specs.Table.{cipherAt, zuc, rabbit, snow128, snow256, kcipher2, mugi, allZero}
 use Rattle.ciphers.proofs.Tests.{both-true}
 use Rattle.command.specs.declared.Cipher.{Cipher}
-use Rattle.command.specs.declared.Cipher.the-variants.{Zuc, Rabbit, Snow128, Snow256, Kcipher2}
+use Rattle.command.specs.declared.Cipher.the-variants.{Zuc, Rabbit, Snow128, Snow256, Kcipher2, Mugi}
 use Rattle.command.specs.Decode.{numberOf}
 use Rattle.line.specs.declared.Line.{Line}
 use Rattle.checks.proofs.Between.{both-false}
@@ -22,20 +22,22 @@ use Rattle.answer.specs.declared.Answer.{Answer}
 use Rattle.answer.specs.Answer.{Given}
 
 pub key-fits : (c : Cipher) → cipherAt (numberOf c) .key ≤ 32
-unfolding cipherAt zuc rabbit snow128 snow256 kcipher2
+unfolding cipherAt zuc rabbit snow128 snow256 kcipher2 mugi
 key-fits Zuc = lit≤ tt
 key-fits Rabbit = lit≤ tt
 key-fits Snow128 = lit≤ tt
 key-fits Snow256 = lit≤ tt
 key-fits Kcipher2 = lit≤ tt
+key-fits Mugi = lit≤ tt
 
 pub iv-fits : (c : Cipher) → cipherAt (numberOf c) .iv ≤ 16
-unfolding cipherAt zuc rabbit snow128 snow256 kcipher2
+unfolding cipherAt zuc rabbit snow128 snow256 kcipher2 mugi
 iv-fits Zuc = lit≤ tt
 iv-fits Rabbit = lit≤ tt
 iv-fits Snow128 = lit≤ tt
 iv-fits Snow256 = lit≤ tt
 iv-fits Kcipher2 = lit≤ tt
+iv-fits Mugi = lit≤ tt
 
 module _ (c k v : ℕ) (key iv : List ℕ) (ek : k ≡ cipherAt c .key) (ev : v ≡ cipherAt c .iv) where
   spare-is : (b : Bool) → both (allZero (drop k key)) (allZero (drop v iv)) ≡ b → spareUsed c key iv ≡ not b

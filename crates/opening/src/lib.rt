@@ -36,7 +36,7 @@ fn key_part<'a>(tray: &'a [u8], command: &'a [u8], own: bool, at: usize) -> &'a 
 }
 
 // An open line at its first byte.
-fn first_line(cipher: u8, words: [u32; 20]) -> Line
+fn first_line(cipher: u8, words: [u32; 38]) -> Line
     ensures { λ r. ⌜ r ≡ record { mode = 1; cipher = cipher; n = 0; words = words } ⌝ }
 {
     Line {

@@ -1,4 +1,4 @@
--- A card as words that a program in C or Rust keeps: eight lines of 24 words each, mode, cipher, n in two words and the twenty words of the state. All zeros are a fresh card.
+-- A card as words that a program in C or Rust keeps: eight lines of 42 words each, mode, cipher, n in two words and the thirty-eight words of the state. All zeros are a fresh card.
 -- Assumes nothing.
 use mathlib.Core.Path.{_≡_}
 use mathlib.Core.Bool.{not}
@@ -11,7 +11,10 @@ use Rattle.words.specs.Tests.{pick}
 use Rattle.line.specs.declared.Line.{Line}
 use Rattle.machine.specs.Machine.{Call, Shown, cardStep}
 use Rattle.answer.specs.declared.Card.{Card}
-use Rattle.answer.specs.Answer.{seenOf, outOf}
+use Rattle.command.specs.declared.Command.{Command}
+use Rattle.answer.specs.declared.Acted.{Acted}
+use Rattle.answer.specs.Answer.{seenOf, outOf, Acts}
+use Rattle.pipeshear.specs.declared.Outcome.{Outcome}
 
 -- the line that stands at the start of words; a mode or a cipher over 255 counts as 255, which none has
 unfoldable pub lineIn : List ℕ → Line
@@ -20,13 +23,13 @@ lineIn ws =
       mode = min (getD ws 0 0) 255;
       cipher = min (getD ws 1 0) 255;
       n = getD ws 2 0 * 2 ^ 32 + getD ws 3 0;
-      words = tab 20 (λ k. getD ws (4 + k) 0);
+      words = tab 38 (λ k. getD ws (4 + k) 0);
     }
 
 -- so many lines, one behind the other
 abbrev pub linesIn : ℕ → List ℕ → List Line
 linesIn zero ws = []
-linesIn (suc k) ws = linesIn k ws ++ (lineIn (drop (24 * k) ws) ∷ [])
+linesIn (suc k) ws = linesIn k ws ++ (lineIn (drop (42 * k) ws) ∷ [])
 
 unfoldable pub cardIn : List ℕ → Card
 cardIn ws = record { lines = linesIn 8 ws }
@@ -44,7 +47,14 @@ cardWords c = linesWords (c .lines)
 
 -- the words of the first k lines are those of the lines that they hold
 abbrev pub Held : ℕ → List ℕ → Type 0
-Held k ws = (j : ℕ) → j < k → lineWords (lineIn (drop (24 * j) ws)) ≡ take 24 (drop (24 * j) ws)
+Held k ws = (j : ℕ) → j < k → lineWords (lineIn (drop (42 * j) ws)) ≡ take 42 (drop (42 * j) ws)
+
+-- what a command that is read does to the line at the start of words: what it gives of that line is told, and the line stands there in its words
+pub record ActsOn (ws : List ℕ) (k : Command) (a : Call) (r : Outcome) (ws' out' : List ℕ) : Type 0 where
+  pub given : Acted
+  pub acts : Acts (lineIn ws) k a given out'
+  pub told : r ≡ record { code = given .code; «used_command» = given .«used_command»; «used_data» = given .«used_data»; written = given .written }
+  pub put : ws' ≡ lineWords (given .line) ++ drop 42 ws
 
 -- what a call gives: the code, the card's words, out and the counts
 pub record Result : Type 0 where
@@ -62,7 +72,7 @@ shownAs s ws out =
     leaves (s .outcome .code) (pick (eqb (s .outcome .code) 0) (cardWords (record { lines = s .card .lines })) ws) (outOf s out)
     (s .outcome .used-command) (s .outcome .used-data) (length (s .outcome .written))
 
--- of a card of 192 words
+-- of a card of 336 words
 unfoldable pub calledOn : List ℕ → Call → Result
 calledOn ws a = shownAs (cardStep (seenOf (cardIn ws)) a) ws (a .out)
 
@@ -70,7 +80,7 @@ calledOn ws a = shownAs (cardStep (seenOf (cardIn ws)) a) ws (a .out)
 unfoldable pub resultOf : List ℕ → Call → List ℕ → Result
 resultOf ws a counts =
     pick (not (eqb (length counts) 3)) (record { code = 255; card = ws; out = a .out; counts = counts })
-    (pick (not (eqb (length ws) 192)) (leaves 255 ws (a .out) 0 0 0)
+    (pick (not (eqb (length ws) 336)) (leaves 255 ws (a .out) 0 0 0)
     (calledOn ws a))
 
 -- the promise of a call: all that it leaves

@@ -1,5 +1,6 @@
-//! AES's byte substitution, from the inverse in its field and its affine map, and the function T of SNOW 2.0
-//! (8.2.5), which is Sub of KCipher-2 too (8.5.5).
+//! AES's byte substitution, from the inverse in its field and its affine map, and its product of a column of four
+//! bytes: with the first byte highest it is that of MUGI (8.1.7), with the first byte lowest the function T of SNOW
+//! 2.0 (8.2.5), which is Sub of KCipher-2 too (8.5.5).
 
 use crate::field::{inverse, times_x};
 
@@ -21,10 +22,10 @@ const fn affine(a: u8) -> u8 {
     a ^ a.rotate_left(1) ^ a.rotate_left(2) ^ a.rotate_left(3) ^ a.rotate_left(4) ^ 0x63
 }
 
-/// T(w): each byte substituted, then the product with (x+1)y^3 + y^2 + y + x modulo y^4 + 1.
-pub fn t(w: u32) -> u32 {
+/// Each byte substituted, then the product with (x+1)y^3 + y^2 + y + x modulo y^4 + 1, byte i the coefficient of y^i.
+pub fn column(bytes: [u8; 4]) -> [u8; 4] {
     let mut q = [0; 4];
-    for (j, byte) in w.to_le_bytes().into_iter().enumerate() {
+    for (j, byte) in bytes.into_iter().enumerate() {
         let once = SUB[byte as usize];
         let twice = times_x(once, POLY);
         let factors = [twice, once, once, twice ^ once];
@@ -32,7 +33,12 @@ pub fn t(w: u32) -> u32 {
             q[(i + j) % 4] ^= product;
         }
     }
-    u32::from_le_bytes(q)
+    q
+}
+
+/// T(w).
+pub fn t(w: u32) -> u32 {
+    u32::from_le_bytes(column(w.to_le_bytes()))
 }
 
 #[cfg(test)]

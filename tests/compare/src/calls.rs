@@ -246,7 +246,7 @@ mod tests {
     fn a_word_left_behind_is_found() {
         let card = Faulty { machine: Machine::fresh(), fault: |_, _, _| (), bits: 1 };
         let told = held(card).unwrap_err();
-        assert!(told.contains("word 23 of line 7 is 00000001, expected 00000000"), "{told}");
+        assert!(told.contains("word 41 of line 7 is 00000001, expected 00000000"), "{told}");
     }
 
     #[test]

@@ -1,4 +1,5 @@
-//! The worked cases, edges and example of document 01, checked of the second implementation before it is used.
+//! The worked cases, edges and example of document 01, checked of the second implementation before it is used; the
+//! edges of park are those of an image of 161 bytes.
 
 use crate::command::{self, IMAGE};
 use crate::machine::{Answer, Machine, END};
@@ -53,8 +54,8 @@ fn edges() -> Vec<(&'static str, bool)> {
         ("a tray of 8,192 passes", opened(8_192) == 0),
         ("a tray of 8,224 is 9", opened(8_224) == 9),
         ("an empty tray is 10", opened(0) == 10),
-        ("out of 88 bytes for park is 12", code(&own, &command::park(7), 0, 0, 88) == 12),
-        ("out of 89 bytes for park is enough", code(&own, &command::park(7), 0, 0, 89) == 0),
+        ("out of 160 bytes for park is 12", code(&own, &command::park(7), 0, 0, 160) == 12),
+        ("out of 161 bytes for park is enough", code(&own, &command::park(7), 0, 0, 161) == 0),
         ("count 0 needs neither data nor out", code(&own, &command::crypt(7, 0), 0, 0, 0) == 0),
         ("an empty command is 1", code(&[], &[], 0, 0, 0) == 1),
         ("an unknown command is 2 though it is short", code(&[], &[7], 0, 0, 0) == 2),

@@ -1,6 +1,6 @@
-//! What a keystream generator is: its row in document 01's table, and functions on a state of 32-bit words.
+//! What a keystream generator is: its row in the table of ciphers, and functions on a state of 32-bit words.
 
-use crate::{kcipher2, rabbit, snow2, zuc};
+use crate::{kcipher2, mugi, rabbit, snow2, zuc};
 
 /// A state, its words in the order of the state bytes; Rabbit's carry is a word of its own at the end.
 pub type State = Vec<u32>;
@@ -44,7 +44,10 @@ pub trait Cipher: Sync {
     }
 }
 
-/// The cipher of a number; none but 1 to 5.
+/// The ciphers' numbers go from 1 to this one.
+pub const LAST: u8 = 6;
+
+/// The cipher of a number; none but 1 to `LAST`.
 pub fn by_number(number: u8) -> Option<&'static dyn Cipher> {
     match number {
         1 => Some(&zuc::Zuc),
@@ -52,6 +55,7 @@ pub fn by_number(number: u8) -> Option<&'static dyn Cipher> {
         3 => Some(&snow2::Snow2 { key: 16 }),
         4 => Some(&snow2::Snow2 { key: 32 }),
         5 => Some(&kcipher2::Kcipher2),
+        6 => Some(&mugi::Mugi),
         _ => None,
     }
 }
@@ -68,7 +72,7 @@ mod tests {
 
     #[test]
     fn state_bytes_are_read_back() {
-        for number in 1..=5 {
+        for number in 1..=LAST {
             let cipher = by_number(number).unwrap();
             let shape = cipher.shape();
             assert_eq!(shape.number, number);
@@ -80,5 +84,10 @@ mod tests {
             assert_eq!(cipher.strm(&state).len(), shape.unit);
             assert!(cipher.admits(&state));
         }
+    }
+
+    #[test]
+    fn no_other_number_is_a_cipher() {
+        assert!((0..=255).filter(|&number| by_number(number).is_some()).eq(1..=LAST));
     }
 }

@@ -8,7 +8,7 @@ pub const RESUME: u8 = 5;
 pub const CLOSE: u8 = 6;
 
 /// The length of an image.
-pub const IMAGE: usize = 89;
+pub const IMAGE: usize = 161;
 
 /// The length of a tray record, and of the key in command 02.
 pub const RECORD: usize = 32;

@@ -1,6 +1,7 @@
 //! The last command of a list that ends in a refusal, with the faults that its plan names.
 
 use crate::builder::Builder;
+use crate::cipher::LAST;
 use crate::command::{self, CRYPT, OPEN_OWN, OPEN_TRAY, PARK, RECORD, RESUME};
 use crate::machine::END;
 use crate::plan::Plan;
@@ -36,17 +37,17 @@ fn cipher(b: &mut Builder, plan: &Plan) -> u8 {
     if plan.stray_iv() {
         2
     } else if plan.stray_key() {
-        b.random.pick(&[1, 2, 3, 5])
+        b.random.pick(&[1, 2, 3, 5, 6])
     } else {
-        b.random.between(1, 5) as u8
+        b.random.between(1, LAST.into()) as u8
     }
 }
 
 /// The cipher operand: the cipher itself, or with fault 4 a number that is none.
 fn cipher_operand(b: &mut Builder, plan: &Plan, cipher: u8) -> u8 {
-    let any = b.random.between(6, 255) as u8;
+    let any = b.random.between(u64::from(LAST) + 1, 255) as u8;
     if plan.has(4) {
-        b.random.pick(&[0, 6, 7, 8, 255, any])
+        b.random.pick(&[0, LAST + 1, 8, 9, 255, any])
     } else {
         cipher
     }

@@ -2,6 +2,7 @@
 //! that just fit.
 
 use crate::builder::Builder;
+use crate::cipher::LAST;
 use crate::command::{self, IMAGE};
 use crate::plain;
 use crate::program::{Files, READ};
@@ -55,7 +56,7 @@ pub fn line(b: &mut Builder) -> u8 {
         return line;
     }
     let line = b.random.between(0, 7) as u8;
-    let cipher = b.random.between(1, 5) as u8;
+    let cipher = b.random.between(1, LAST.into()) as u8;
     let numbers = trays::keys(b.tray(), cipher);
     let number = b.random.pick(&numbers);
     let iv = plain::iv(&mut b.random, cipher);

@@ -1,7 +1,7 @@
 //! Images that no park of the list has written: well-formed ones at chosen positions, and ones that number 8
 //! refuses.
 
-use crate::cipher::by_number;
+use crate::cipher::{by_number, LAST};
 use crate::command::{padded, IMAGE};
 use crate::machine::END;
 use crate::random::Random;
@@ -20,7 +20,7 @@ pub fn elsewhere(random: &mut Random) -> Vec<u8> {
 
 /// A well-formed image of any cipher at a position.
 pub fn at(random: &mut Random, position: u64) -> Vec<u8> {
-    let cipher = random.between(1, 5) as u8;
+    let cipher = random.between(1, LAST.into()) as u8;
     let state = state(random, cipher);
     image(cipher, position, &state)
 }
@@ -87,10 +87,10 @@ pub const FAULTS: usize = 14;
 /// bytes after the state, a ZUC cell or Rabbit's carry. The next time round the place of the fault is another.
 pub fn bad(random: &mut Random, index: usize) -> Vec<u8> {
     let (position, which) = (position(random), index / FAULTS);
-    let any = random.between(7, 255) as u8;
+    let any = random.between(u64::from(LAST) + 2, 255) as u8;
     match index % FAULTS {
         0 => with(at(random, position), 0, 0),
-        1 => with(at(random, position), 0, 6),
+        1 => with(at(random, position), 0, LAST + 1),
         2 => with(at(random, position), 0, any),
         3 => at(random, END + 1),
         4 => {
@@ -125,9 +125,9 @@ fn known(random: &mut Random, cipher: u8, position: u64) -> Vec<u8> {
     image(cipher, position, &state)
 }
 
-/// A byte other than 0 after the state. KCipher-2's state leaves no room for one.
+/// A byte other than 0 after the state. MUGI's state leaves no room for one.
 fn bad_padding(random: &mut Random, position: u64, which: usize) -> Vec<u8> {
-    let cipher = random.between(1, 4) as u8;
+    let cipher = random.between(1, 5) as u8;
     let first = 9 + by_number(cipher).map_or(0, |c| c.shape().state);
     let place = random.place(which, first, IMAGE - 1);
     let byte = random.odd_byte();

@@ -23,6 +23,7 @@ pub mod images;
 pub mod kcipher2;
 pub mod lists;
 pub mod machine;
+pub mod mugi;
 pub mod named;
 pub mod odd;
 pub mod plain;

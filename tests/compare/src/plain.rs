@@ -2,7 +2,7 @@
 //! turn, parks and resumes.
 
 use crate::builder::Builder;
-use crate::cipher::by_number;
+use crate::cipher::{by_number, LAST};
 use crate::command::{self, padded, IMAGE, IV, RECORD};
 use crate::images;
 use crate::machine::END;
@@ -94,7 +94,7 @@ fn step(b: &mut Builder) {
 
 /// Opens an idle line with any cipher, from the tray where it has a key for it, or with a key of the command's own.
 pub fn open_line(b: &mut Builder, line: u8) -> bool {
-    let cipher = b.random.between(1, 5) as u8;
+    let cipher = b.random.between(1, LAST.into()) as u8;
     let keys = trays::keys(b.tray(), cipher);
     if !keys.is_empty() && b.random.chance(60) {
         let number = b.random.pick(&keys);

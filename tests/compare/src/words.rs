@@ -1,18 +1,18 @@
-//! The card as words that a program in C or Rust keeps: eight lines of 24 words each, the mode (1 of an open line), the
-//! cipher's number, the position in two words, the high one first, and the state bytes as twenty big-endian words with
-//! zeros after them. An idle line is all zeros.
+//! The card as words that a program in C or Rust keeps: eight lines alike, each the mode (1 of an open line), the
+//! cipher's number, the position in two words, the high one first, and the state bytes as big-endian words with zeros
+//! after them. An idle line is all zeros.
 
 use crate::cipher;
 use crate::command::{padded, resume};
 use crate::machine::{Machine, Seen};
 
-/// The words of a line, and those of a card.
-pub const LINE: usize = 24;
-pub const CARD: usize = 8 * LINE;
-
 /// Where the state stands in a line, and how many words it has.
 pub const STATE: usize = 4;
-pub const STATE_WORDS: usize = LINE - STATE;
+pub const STATE_WORDS: usize = 38;
+
+/// The words of a line, and those of a card.
+pub const LINE: usize = STATE + STATE_WORDS;
+pub const CARD: usize = 8 * LINE;
 
 /// The words of a card with the machine's lines.
 pub fn of(machine: &Machine) -> Vec<u32> {
@@ -97,15 +97,15 @@ mod tests {
         machine.call(&resume(1, &images::image(2, END - 1, &state)), &[], &[], &mut []);
         let words = of(&machine);
         assert_eq!(words[LINE..LINE + 5], [1, 2, 0xF, 0xFFFF_FFFF, 0xAAAA_AAAA]);
-        assert_eq!(words[LINE + 19..2 * LINE], [0xAAAA_AAAA, 0x0100_0000, 0, 0, 0]);
-        assert!(words[..LINE].iter().chain(&words[2 * LINE..]).all(|&word| word == 0));
+        assert_eq!(words[LINE + 19..LINE + 21], [0xAAAA_AAAA, 0x0100_0000]);
+        assert!(words[..LINE].iter().chain(&words[LINE + 21..]).all(|&word| word == 0));
     }
 
     #[test]
     fn other_words_are_no_card() {
         let words = of(&some(&mut Random::new(6, 1)));
         let with = |place: usize, word: u32| machine(&[&words[..place], &[word], &words[place + 1..]].concat());
-        for (place, word) in [(0, 2), (0, 0), (0, 257), (1, 0), (1, 6), (1, 257), (2, 17), (CARD - 1, 1)] {
+        for (place, word) in [(0, 2), (0, 0), (0, 257), (1, 0), (1, 7), (1, 257), (2, 17), (CARD - 1, 1)] {
             assert!(with(place, word).is_none(), "{place} {word}");
         }
         assert!(machine(&words[1..]).is_none());

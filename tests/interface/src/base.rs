@@ -1,18 +1,19 @@
-//! A card with a line for each cipher, one that is a byte before the end and two that are idle, and calls that meet
+//! A card with a line for each cipher, one that is a byte before the end and one that is idle, and calls that meet
 //! every code on it. It can be turned, so that what stood on line 0 stands on another.
 
 use compare::calls::OwnCall;
-use compare::cipher::by_number;
+use compare::cipher::{by_number, LAST};
 use compare::command::{self, padded, IMAGE, IV, RECORD};
 use compare::images::image;
 use compare::machine::{Machine, END};
 
-/// What stands on the lines of a card that is not turned; on the first five are the ciphers, 1 to 5.
+/// What stands on the lines of a card that is not turned; on the first six are the ciphers by their numbers.
 pub const ZUC: u8 = 0;
 pub const RABBIT: u8 = 1;
 pub const KCIPHER2: u8 = 4;
-pub const LATE: u8 = 5;
-pub const IDLE: [u8; 2] = [6, 7];
+pub const MUGI: u8 = 5;
+pub const LATE: u8 = 6;
+pub const IDLE: u8 = 7;
 
 /// The cipher of the line that is late.
 pub const LATE_CIPHER: u8 = 3;
@@ -29,9 +30,9 @@ pub fn machine(turn: u8) -> Machine {
         let code = machine.call(command, &[], data, &mut vec![0; data.len()]).code;
         assert_eq!(code, 0, "the card is made with accepted commands");
     };
-    for cipher in 1..=5 {
+    for cipher in 1..=LAST {
         accept(&open(line(cipher - 1, turn), cipher), &[]);
-        accept(&command::crypt(line(cipher - 1, turn), 5 * u16::from(cipher) + 1), &[0; 26]);
+        accept(&command::crypt(line(cipher - 1, turn), 5 * u16::from(cipher) + 1), &[0; 31]);
     }
     accept(&command::resume(line(LATE, turn), &image(LATE_CIPHER, END - 1, &[7; 72])), &[]);
     machine
@@ -59,15 +60,19 @@ fn call(command: Vec<u8>) -> OwnCall {
 }
 
 fn accepted(turn: u8) -> Vec<(u8, OwnCall)> {
-    let idle = line(IDLE[0], turn);
+    let idle = line(IDLE, turn);
     let commands = [
         command::open_tray(idle, 5, 0, &[1; IV]),
         open(idle, 4),
+        open(idle, 6),
         command::crypt(line(ZUC, turn), 9),
+        command::crypt(line(MUGI, turn), 10),
         command::crypt(line(LATE, turn), 1),
         empty_crypt(turn),
         command::park(line(RABBIT, turn)),
+        command::park(line(MUGI, turn)),
         command::resume(idle, &image(3, 1, &[9; 72])),
+        command::resume(idle, &image(6, 1, &[9; 152])),
         command::close(line(KCIPHER2, turn)),
     ];
     commands.map(|command| (0, call(command))).into()
@@ -75,34 +80,37 @@ fn accepted(turn: u8) -> Vec<(u8, OwnCall)> {
 
 /// Refusals that the command alone decides.
 fn unread(turn: u8) -> Vec<(u8, OwnCall)> {
-    let idle = line(IDLE[1], turn);
+    let idle = line(IDLE, turn);
     let calls = [
         (1, vec![]),
         (1, vec![3, idle, 0]),
         (1, open(idle, 1)[..50].to_vec()),
-        (2, vec![0; 91]),
+        (1, command::resume(idle, &image(3, 1, &[9; 72])[..IMAGE - 1])),
+        (2, vec![0; 2 + IMAGE]),
         (2, vec![7]),
         (3, command::close(8)),
         (3, command::crypt(255, 1)),
         (4, open(idle, 0)),
-        (4, open(idle, 6)),
+        (4, open(idle, LAST + 1)),
     ];
     calls.map(|(code, command)| (code, call(command))).into()
 }
 
 /// Refusals that the lines, the key, the IV or the image decide.
 fn unfit(turn: u8) -> Vec<(u8, OwnCall)> {
-    let (busy, idle) = (line(ZUC, turn), line(IDLE[1], turn));
+    let (busy, idle) = (line(ZUC, turn), line(IDLE, turn));
     let calls = [
         (5, open(busy, 1)),
         (5, command::resume(busy, &image(3, 1, &[9; 72]))),
         (6, command::crypt(idle, 0)),
+        (6, command::crypt(idle, 9)),
         (6, command::park(idle)),
         (6, command::close(idle)),
         (7, command::open_own(idle, 1, &[1; RECORD], &[0; IV])),
         (7, command::open_tray(idle, 2, 0, &[1; IV])),
         (8, command::resume(idle, &[0; IMAGE])),
         (8, command::resume(idle, &image(3, END + 1, &[9; 72]))),
+        (8, command::resume(idle, &image(5, 1, &[9; 81]))),
         (10, command::open_tray(idle, 1, 1, &[0; IV])),
         (11, command::crypt(busy, 11)),
         (13, command::crypt(line(LATE, turn), 2)),
@@ -112,7 +120,7 @@ fn unfit(turn: u8) -> Vec<(u8, OwnCall)> {
 
 /// Refusals that the lengths of tray, data and out decide.
 fn unlent(turn: u8) -> Vec<(u8, OwnCall)> {
-    let (busy, idle) = (line(RABBIT, turn), line(IDLE[0], turn));
+    let (busy, idle) = (line(RABBIT, turn), line(IDLE, turn));
     let from_tray = || call(command::open_tray(idle, 1, 0, &[0; IV]));
     let crypt = || call(command::crypt(busy, 10));
     vec![

@@ -1,9 +1,10 @@
 //! Every kind of damage that 255 names. Whatever else is wrong with a call, its code is 255, and nothing changes.
 
-use crate::base::{IDLE, KCIPHER2, LATE, LATE_CIPHER, RABBIT, ZUC};
+use crate::base::{IDLE, LATE, LATE_CIPHER, MUGI, RABBIT, ZUC};
 use crate::change::{hold_all, Change};
+use compare::cipher::{by_number, LAST};
 use compare::subject::Tally;
-use compare::words::{LINE, STATE};
+use compare::words::{LINE, STATE, STATE_WORDS};
 use compare::zuc::TOP;
 
 /// Holds the linked card on all damages, each on every line.
@@ -21,7 +22,7 @@ const LOW: usize = 3;
 
 /// The lines that are open, with their ciphers.
 fn open() -> impl Iterator<Item = (u8, u8)> {
-    (ZUC..=KCIPHER2).map(|what| (what, what + 1)).chain([(LATE, LATE_CIPHER)])
+    (ZUC..=MUGI).map(|what| (what, what + 1)).chain([(LATE, LATE_CIPHER)])
 }
 
 /// One change for each of these words in a place.
@@ -40,7 +41,8 @@ fn modes() -> Vec<Change> {
 /// An open line whose cipher is none; one has the line's own for its lowest byte.
 fn ciphers() -> Vec<Change> {
     let of = |(what, cipher)| {
-        let words = [0, 6, 7, 254, 255, 256, 256 + u32::from(cipher), u32::from(cipher) << 24, u32::MAX];
+        let (own, none) = (u32::from(cipher), u32::from(LAST) + 1);
+        let words = [0, none, none + 1, 254, 255, 256, 256 + own, own << 24, u32::MAX];
         each(&format!("open line, cipher {cipher} made"), what, CIPHER, &words)
     };
     open().flat_map(of).collect()
@@ -69,13 +71,15 @@ fn carries() -> Vec<Change> {
     each("Rabbit, the carry's word is", RABBIT, STATE + 16, &[2, 3, 128, 255].map(|carry| carry << 24))
 }
 
-/// Words behind a state, and the rest of the word that Rabbit's carry is in. KCipher-2's state leaves none.
+/// Each word behind a state, the rest of the word that Rabbit's carry is in, and MUGI's words, which leave none unused,
+/// under every other cipher.
 fn unused() -> Vec<Change> {
     let rest = [1, 0x0000_0100, 0x0001_0000, 0x0100_0001, 0x01FF_FFFF];
     let mut all = each("Rabbit, the carry's word is", RABBIT, STATE + 16, &rest);
-    all.extend(each("Rabbit, word 17 is", RABBIT, STATE + 17, &[1, 1 << 31]));
-    for (what, cipher) in open().filter(|(what, _)| *what != KCIPHER2) {
-        for word in [18, 19] {
+    all.extend(each("MUGI's words under cipher", MUGI, CIPHER, &[1, 2, 3, 4, 5]));
+    for (what, cipher) in open() {
+        let used = by_number(cipher).map_or(STATE_WORDS, |c| c.shape().state.div_ceil(4));
+        for word in used..STATE_WORDS {
             all.extend(each(&format!("cipher {cipher}, word {word} is"), what, STATE + word, &[1, 1 << 31]));
         }
     }
@@ -84,14 +88,11 @@ fn unused() -> Vec<Change> {
 
 /// An idle line with a mode, a cipher, a position or a word.
 fn idle() -> Vec<Change> {
-    let of = |what: u8| {
-        let mut all = each("idle line, mode", what, MODE, &[1, 2, 255, 256, 1 << 31, u32::MAX]);
-        all.extend(each("idle line, cipher", what, CIPHER, &[1, 2, 3, 4, 5, 6, 255, 256, u32::MAX]));
-        all.extend((HIGH..LINE).flat_map(|place| {
-            let name = format!("idle line, word {place} is");
-            each(&name, what, place, &[1, u32::MAX])
-        }));
-        all
-    };
-    IDLE.into_iter().flat_map(of).collect()
+    let mut all = each("idle line, mode", IDLE, MODE, &[1, 2, 255, 256, 1 << 31, u32::MAX]);
+    all.extend(each("idle line, cipher", IDLE, CIPHER, &[1, 2, 3, 4, 5, 6, 7, 255, 256, u32::MAX]));
+    all.extend((HIGH..LINE).flat_map(|place| {
+        let name = format!("idle line, word {place} is");
+        each(&name, IDLE, place, &[1, u32::MAX])
+    }));
+    all
 }

@@ -53,7 +53,7 @@ mod tests {
         let (_, call) = base::calls(0).remove(0);
         let left = wanted(&card, &call, &COUNTS);
         let changes: [fn(&mut Left); 4] =
-            [|l| l.code = 9, |l| l.counts[1] ^= 1, |l| l.card[191] ^= 1, |l| l.out[0] ^= 1];
+            [|l| l.code = 9, |l| l.counts[1] ^= 1, |l| l.card[words::CARD - 1] ^= 1, |l| l.out[0] ^= 1];
         for change in changes {
             let mut other = left.clone();
             change(&mut other);

@@ -1,4 +1,4 @@
-//! Card buffers that haven't 192 words and counts that haven't three places: the code is 255 for every call, and
+//! Card buffers that haven't a card's words and counts that haven't three places: the code is 255 for every call, and
 //! nothing changes but counts of three places, which become zeros.
 
 use crate::base;
@@ -8,8 +8,8 @@ use compare::subject::Tally;
 use compare::words::{self, CARD, LINE};
 
 /// Lengths on both sides of the right ones, none among them.
-const WORDS: [usize; 9] = [0, 1, LINE, 168, CARD - 1, CARD + 1, CARD + LINE, 2 * CARD, 4 * CARD];
-const PLACES: [usize; 6] = [0, 1, 2, 4, 5, 192];
+const WORDS: [usize; 10] = [0, 1, LINE, 192, CARD - LINE, CARD - 1, CARD + 1, CARD + LINE, 2 * CARD, 4 * CARD];
+const PLACES: [usize; 6] = [0, 1, 2, 4, 5, CARD];
 
 /// Holds the linked card on every wrong length of the card, of counts and of both; the words are those of a card, of a
 /// fresh one, or of none.

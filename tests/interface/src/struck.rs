@@ -12,7 +12,7 @@ use compare::words::{self, CARD, LINE, STATE};
 use compare::zuc::TOP;
 
 /// Words at the limits of what a place may hold.
-const WORDS: [u32; 17] = [0, 1, 2, 3, 5, 6, 15, 16, 17, 255, 256, 257, 1 << 24, 2 << 24, TOP, TOP + 1, u32::MAX];
+const WORDS: [u32; 18] = [0, 1, 2, 3, 5, 6, 7, 15, 16, 17, 255, 256, 257, 1 << 24, 2 << 24, TOP, TOP + 1, u32::MAX];
 
 /// One call in so many is given to a changed card too.
 const EVERY: u64 = 3;

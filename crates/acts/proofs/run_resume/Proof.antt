@@ -36,7 +36,7 @@ returns-3 c =
     let g = c .before .before .open-ok .ensures ∙ ap openOk (b .ensures) in
     λ i _ t o d h. given-false d t o _ _ _ (busy-is d i (a .l) h true (eq-eqb _ _ (c .before .before .before .before .before .if1 .left)))
     (given-false d t o _ _ _ (ap not (sym g ∙ not-false _ (c .before .if2 .left)))
-    (given-put d t o i (a .l) h 91 _ (b .result) (b .ensures ∙ sym (shown-based (imageLine (imageIn (a .command .now))))) (c .placed .result) (c .placed .ensures)))
+    (given-put d t o i (a .l) h 163 _ (b .result) (b .ensures ∙ sym (shown-based (imageLine (imageIn (a .command .now))))) (c .placed .result) (c .placed .ensures)))
 
 pub run-resume-spec : {M : Type 1} → statement M
 run-resume-spec =

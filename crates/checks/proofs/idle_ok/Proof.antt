@@ -18,7 +18,7 @@ returns-2 c = simp (eq-eqb _ _ (c .before .if1 .left), ne-eqb _ _ (c .if2 .taken
 
 slice-aggregate-words-zero : tie.Need-slice-aggregate-words-zero
 slice-aggregate-words-zero c =
-    let n : length (c .before .before .before .before .args .l .words) ≡ 20 = search needs in
+    let n : length (c .before .before .before .before .args .l .words) ≡ 38 = search needs in
     sym n
 
 returns-3 : tie.Need-returns-3

@@ -1,30 +1,21 @@
--- `checks::open_ok` meets its contract: the answers follow the tests in their order.
+-- `checks::open_ok` meets its contract: its parts are those of an open line, whatever its mode says.
 -- Assumes nothing.
-use borrow.Author.Tests.{le-leb, lt-leb}
+use mathlib.Core.Path.{_≡_, sym}
+use lib.ListN.{length}
 use Rattle.machine.specs.Machine.{openOk}
-use Rattle.checks.proofs.Between.{zero-fails, above-fails, between-passes}
 use borrow.Author.Needs.{needs}
 use Rattle.checks.proofs.open_ok.Statement.{statement}
 use Rattle.checks.proofs.open_ok.Tie as tie
 
+slice-aggregate-open-with : tie.Need-slice-aggregate-open-with
+slice-aggregate-open-with c =
+    let n : length (c .before .before .args .l .words) ≡ 38 = search needs in
+    sym n
+
 returns : tie.Need-returns
 unfolding openOk
-returns c = rw (zero-fails 5 _ (c .if1 .taken))
-
-returns-2 : tie.Need-returns-2
-unfolding openOk
-returns-2 c = rw (above-fails 5 _ (c .if2 .taken))
-
-returns-3 : tie.Need-returns-3
-unfolding openOk
-returns-3 c = rw (between-passes 5 _ (c .before .before .if1 .left) (c .before .if2 .left), lt-leb _ _ (c .if3 .taken))
-
-returns-4 : tie.Need-returns-4
-unfolding openOk
-returns-4 c =
-    rw (between-passes 5 _ (c .before .before .before .if1 .left) (c .before .before .if2 .left), le-leb _ _ (c .before .if3 .left))
-    (c .admits .ensures)
+returns c = c .open-with .ensures
 
 pub open-ok-spec : {M : Type 1} → statement M
 open-ok-spec =
-    tie.close (tie.spec returns returns-2 returns-3 (λ c κs. search needs) returns-4)
+    tie.close (tie.spec slice-aggregate-open-with (λ c κs. search needs) returns)

@@ -10,7 +10,7 @@ returns : tie.Need-returns
 returns c = rw (sym (c .before .cells .ensures) ∙ not-true _ (c .if1 .taken))
 
 returns-2 : tie.Need-returns-2
-returns-2 c = rw (sym (c .before .before .cells .ensures) ∙ not-false _ (c .before .if1 .left)) (c .two-spare .ensures)
+returns-2 c = rw (sym (c .before .before .cells .ensures) ∙ not-false _ (c .before .if1 .left)) (c .spare .ensures)
 
 pub zuc-admits-spec : {M : Type 1} → statement M
 zuc-admits-spec =

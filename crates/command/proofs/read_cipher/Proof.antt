@@ -27,8 +27,13 @@ returns-5 c = rw (c .match .keys5)
 
 returns-6 : tie.Need-returns-6
 unfolding readOf
-returns-6 c =
+returns-6 c = rw (c .match .keys6)
+
+returns-7 : tie.Need-returns-7
+unfolding readOf
+returns-7 c =
     simp (
+      ne-eqb _ _ (c .match .rest .0 .0 .0 .0 .0 .1),
       ne-eqb _ _ (c .match .rest .0 .0 .0 .0 .1),
       ne-eqb _ _ (c .match .rest .0 .0 .0 .1),
       ne-eqb _ _ (c .match .rest .0 .0 .1),
@@ -38,4 +43,4 @@ returns-6 c =
 
 pub read-cipher-spec : {M : Type 1} → statement M
 read-cipher-spec =
-    tie.close (tie.spec returns returns-2 returns-3 returns-4 returns-5 returns-6)
+    tie.close (tie.spec returns returns-2 returns-3 returns-4 returns-5 returns-6 returns-7)

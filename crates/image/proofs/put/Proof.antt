@@ -1,7 +1,7 @@
 -- `image::put` meets its contract: each part goes behind the one before it.
 -- Assumes nothing.
 use Rattle.buffer.proofs.Fronts.{front-length, front-room, front-within}
-use Rattle.image.proofs.Fronts.{front-1, front-5, front-9, front-89}
+use Rattle.image.proofs.Fronts.{front-1, front-5, front-9, front-161}
 use borrow.Author.Needs.{needs}
 use Rattle.image.proofs.put.Statement.{statement}
 use Rattle.image.proofs.put.Tie as tie
@@ -54,7 +54,7 @@ put-words-requires c κs =
     let r = c .before .before .before in
     let q = r .before .before .before .before in
     let k = q .before .before .before .before in
-    front-room (front-9 (k .args .l) (k .args .out .now) (k .pre) _ (q .put-word .ensures) _ (r .put-word2 .ensures)) 80 (k .pre)
+    front-room (front-9 (k .args .l) (k .args .out .now) (k .pre) _ (q .put-word .ensures) _ (r .put-word2 .ensures)) 152 (k .pre)
 
 same-length : tie.Need-same-length
 same-length c =
@@ -63,7 +63,7 @@ same-length c =
     let q = r .before .before .before .before in
     let k = q .before .before .before .before in
     front-length
-    (front-89 (k .args .l) (k .args .out .now) (k .pre) _ (q .put-word .ensures) _ (r .put-word2 .ensures) _ (search (needs, k .good .0 .1))
+    (front-161 (k .args .l) (k .args .out .now) (k .pre) _ (q .put-word .ensures) _ (r .put-word2 .ensures) _ (search (needs, k .good .0 .1))
     (v .put-words .ensures))
 
 returns : tie.Need-returns
@@ -73,7 +73,7 @@ returns c =
     let q = r .before .before .before .before in
     let k = q .before .before .before .before in
     let f =
-    front-89 (k .args .l) (k .args .out .now) (k .pre) _ (q .put-word .ensures) _ (r .put-word2 .ensures) _ (search (needs, k .good .0 .1)) (v .put-words .ensures) in
+    front-161 (k .args .l) (k .args .out .now) (k .pre) _ (q .put-word .ensures) _ (r .put-word2 .ensures) _ (search (needs, k .good .0 .1)) (v .put-words .ensures) in
     (f .size, f .is)
 
 pub put-spec : {M : Type 1} → statement M

@@ -12,10 +12,10 @@ use Rattle.image.proofs.put_words.Statement.{statement}
 use Rattle.image.proofs.put_words.Tie as tie
 
 abbrev Inv-loop : tie.InvT-loop
-Inv-loop out₀ w i₀ out i = (i ≤ 20) × Front (spelt (take i w)) out₀ out (4 * i)
+Inv-loop out₀ w i₀ out i = (i ≤ 38) × Front (spelt (take i w)) out₀ out (4 * i)
 
 abbrev μ-loop : tie.MeasureT-loop
-μ-loop out₀ w i₀ out i = 20 - i
+μ-loop out₀ w i₀ out i = 38 - i
 
 loop-holds : tie.Need-loop-holds Inv-loop μ-loop
 loop-holds c = (search needs, front-none _)
@@ -44,8 +44,8 @@ returns : tie.Need-returns Inv-loop μ-loop
 returns c =
     let p = c .before in
     let a = p .before .before .args in
-    let e : p .loop .i ≡ 20 = omega arith in
-    words-all (a .t1) (a .out .now) (p .loop .out) 20 (search needs) (rw e at (p .loop .inv .1))
+    let e : p .loop .i ≡ 38 = omega arith in
+    words-all (a .t1) (a .out .now) (p .loop .out) 38 (search needs) (rw e at (p .loop .inv .1))
 
 pub put-words-spec : {M : Type 1} → statement M
 put-words-spec =

@@ -15,10 +15,10 @@ use Rattle.image.proofs.words_in.Statement.{statement}
 use Rattle.image.proofs.words_in.Tie as tie
 
 abbrev Inv-loop : tie.InvT-loop
-Inv-loop s w₀ i₀ w i = (i ≤ 20) × (w ≡ tab i (λ k. wordAt s (9 + 4 * k)) ++ drop i w₀)
+Inv-loop s w₀ i₀ w i = (i ≤ 38) × (w ≡ tab i (λ k. wordAt s (9 + 4 * k)) ++ drop i w₀)
 
 abbrev μ-loop : tie.MeasureT-loop
-μ-loop s w₀ i₀ w i = 20 - i
+μ-loop s w₀ i₀ w i = 38 - i
 
 loop-holds : tie.Need-loop-holds Inv-loop μ-loop
 loop-holds c = (search needs, refl)
@@ -28,12 +28,12 @@ loop-again c =
     let p = c .before .before in
     let s = now (p .before .before .args .s) in (
       search needs,
-      rw (c .word-at .ensures, p .loop .inv .1) (fill (p .loop .i) (λ k. wordAt s (9 + 4 * k)) (replicate 20 0) (search needs)),
+      rw (c .word-at .ensures, p .loop .inv .1) (fill (p .loop .i) (λ k. wordAt s (9 + 4 * k)) (replicate 38 0) (search needs)),
     )
 
 returns : tie.Need-returns Inv-loop μ-loop
 unfolding imageLine
-returns c = let e : c .before .loop .i ≡ 20 = omega arith in rw (c .before .loop .inv .1, e)
+returns c = let e : c .before .loop .i ≡ 38 = omega arith in rw (c .before .loop .inv .1, e)
 
 pub words-in-spec : {M : Type 1} → statement M
 words-in-spec =

@@ -1,11 +1,11 @@
 -- `pipeshear::run` meets its contract: the lines are looked at in their words, and what a command does to its line is what it does to the card that the words hold.
 -- Assumes nothing.
-use Prim.Native.Nat.{ℕ, _*_, _<_, _≤_}
-use mathlib.Core.Path.{_≡_, refl, ap, sym, _∙_}
+use Prim.Native.Nat.{ℕ, _-_, _*_, _<_, _≤_}
+use mathlib.Core.Path.{_≡_, refl, ap, sym, subst, _∙_}
 use mathlib.Core.Bool.{true}
 use mathlib.Core.List.{List}
 use native.Mathlib.Omega.{arith}
-use lib.ListN.{length}
+use lib.ListN.{length, take, drop}
 use borrow.Author.Tests.{not-true, not-false}
 use Rattle.command.specs.declared.Command.{Command}
 use Rattle.command.specs.declared.Decoded.the-variants.{Run, Refused}
@@ -13,13 +13,14 @@ use Rattle.command.specs.Decode.{decodeOf, refusalOf}
 use Rattle.command.proofs.Reading.{read-in, run-has}
 use Rattle.machine.specs.Machine.{Call, allOk, lineOk, lineCount}
 use Rattle.machine.proofs.Codes.{refusal-told}
-use Rattle.answer.specs.declared.Answer.{Answer}
-use Rattle.answer.specs.Answer.{callOf, lineOn, answerOn, Answered}
+use Rattle.answer.specs.Answer.{callOf}
 use Rattle.answer.proofs.Laws.{answered, refusal}
 use Rattle.answer.proofs.Entry.{answers, damaged}
-use Rattle.pipeshear.specs.Words.{cardIn, leaves}
-use Rattle.pipeshear.proofs.Cards.{line-fits, line-named, acted, line-put}
-use Rattle.pipeshear.proofs.Results.{refused, accepted}
+use borrow.Rule.Slice.PartMut.{putMid}
+use Rattle.pipeshear.specs.declared.Outcome.{Outcome}
+use Rattle.pipeshear.specs.Words.{lineIn, cardIn, leaves, calledOn, ActsOn}
+use Rattle.pipeshear.proofs.Cards.{line-fits, line-named}
+use Rattle.pipeshear.proofs.Results.{refused, ran}
 use borrow.Author.Needs.{needs}
 use Rattle.pipeshear.proofs.run.Statement.{statement}
 use Rattle.pipeshear.proofs.run.Tie as tie
@@ -61,29 +62,8 @@ within c =
     let m = start c .args .command .now in
     rw (c .line-of .ensures) (run-has m (decodeOf m) (command c) (read c) (read-in m) .line)
 
-place : (c : tie.After-line-of) → 24 * index c ≤ length (card c)
+place : (c : tie.After-line-of) → 42 * index c ≤ length (card c)
 place c = omega (arith, within c, start c .pre)
-
--- ---- once its line is read
-
-abbrev named : tie.After-read-line → tie.After-line-of
-named c = c .before .before .before
-
-held : (c : tie.After-read-line) → (c .read-line .result ≡ lineOn (cardIn (card (named c))) (index (named c))) × (lineOk (c .read-line .result) ≡ true)
-held c = let p = named c in line-named (card p) (index p) (within p) (in-order (sound p)) (c .read-line .ensures .0)
-
--- ---- once it has acted
-
-abbrev heard : tie.After-act → tie.After-line-of
-heard c = named (c .before .before)
-
-abbrev told : tie.After-act → Answer
-told c = answerOn (cardIn (card (heard c))) (index (heard c)) (c .act .result)
-
-answers-call : (c : tie.After-act) → Answered (cardIn (card (heard c))) (lent (start (heard c))) (told c) (c .act .last .1 .1 .1 .1 .1 .0)
-answers-call c =
-    let p = heard c in
-    acted (card p) (lent (start p)) (command p) (index p) (c .act .result) _ (in-order (sound p)) (read p) (p .line-of .ensures) (within p) (held (c .before .before) .0) (c .act .ensures)
 
 -- ---- what is asked
 
@@ -107,56 +87,58 @@ returns-2 c =
     rw (c .refused2 .ensures, n)
     (refused ws a r (a .out) (answers (cardIn ws) a r (a .out) (Refused k) (in-order (c .before .before .before .before .before)) e (refusal (cardIn ws) (a .text) (a .out) k r refl)) (refusal-told (a .command) k e))
 
-sub-read-line : tie.Need-sub-read-line
-sub-read-line c = let h : 24 * index c ≤ length (card c) = place c in search needs
+-- what a command does to its line is what the call leaves
+done : (c : tie.After-line-of) → {r : Outcome} {ys o : List ℕ} → ActsOn (take (length (card c) - 42 * index c) (drop (42 * index c) (card c))) (command c) (lent (start c)) r ys o →
+    leaves (r .code) (putMid (42 * index c) (length (card c) - 42 * index c) (card c) ys) o (r .«used_command») (r .«used_data») (r .written) ≡ calledOn (card c) (lent (start c))
+done c =
+    let o = sound c in
+    ran (card c) (lent (start c)) (command c) (index c) (start c .pre) (in-order o) (o .before .all-ok .ensures .1 (not-false _ (o .if1 .left))) (read c) (c .line-of .ensures) (within c)
 
-part-read-line-start : tie.Need-part-read-line-start
-part-read-line-start c =
-    let p = c .before in
-    let h : 24 * index p ≤ length (card p) = place p in
+-- the line's words, as they are lent
+fits : (c : tie.After-line-of) → (42 ≤ length (take (length (card c) - 42 * index c) (drop (42 * index c) (card c)))) × (lineOk (lineIn (take (length (card c) - 42 * index c) (drop (42 * index c) (card c)))) ≡ true)
+fits c = (line-fits (card c) (index c) (within c) (start c .pre), line-named (card c) (index c) (within c) (in-order (sound c)) refl .1)
+
+sub-crypt-on : tie.Need-sub-crypt-on
+sub-crypt-on c = place (c .before .before .before)
+
+part-crypt-on-start : tie.Need-part-crypt-on-start
+part-crypt-on-start c =
+    let p = c .before .before .before in
+    let h : 42 * index p ≤ length (card p) = place p in
     search needs
 
-read-line-requires : tie.Need-read-line-requires
-read-line-requires c κs = let p = c .before .before in line-fits (card p) (index p) (within p) (start p .pre)
-
-act-requires : tie.Need-act-requires
-act-requires c κs = (held (c .before) .1, read (named (c .before)))
+crypt-on-requires : tie.Need-crypt-on-requires
+crypt-on-requires c κs = fits (c .before .before .before .before .before)
 
 returns-3 : tie.Need-returns-3
 returns-3 c =
     let w = c .before .before .before .before in
-    let p = heard w in
-    rw (c .refused3 .ensures) (refused (card p) (lent (start p)) (told w) _ (answers-call w) (c .before .if2 .taken))
+    let q = w .before .before .before .before in
+    let p = q .before .before in
+    let s = start p in
+    done p
+    (subst (λ (x : Command). ActsOn (take (length (card p) - 42 * index p) (drop (42 * index p) (card p))) x (lent s) (w .crypt-on .result) (w .crypt-on .last .0) (w .crypt-on .last .1 .1 .1 .0))
+    (sym (q .k .given .1)) (w .crypt-on .ensures _ (s .args .command .now) (s .args .tray .now)))
 
-sub-put-line : tie.Need-sub-put-line
-sub-put-line c =
-    let p = heard (c .before .before .before .before) in
-    let h : 24 * index p ≤ length (card p) = place p in
+sub-act-on : tie.Need-sub-act-on
+sub-act-on c = place (c .before)
+
+part-act-on-start : tie.Need-part-act-on-start
+part-act-on-start c =
+    let p = c .before in
+    let h : 42 * index p ≤ length (card p) = place p in
     search needs
 
-part-put-line-start : tie.Need-part-put-line-start
-part-put-line-start c =
-    let p = heard (c .before .before .before .before) in
-    let h : 24 * index p ≤ length (card p) = place p in
-    search needs
-
-put-line-requires : tie.Need-put-line-requires
-put-line-requires c κs = let p = heard (c .before .before .before .before .before) in line-fits (card p) (index p) (within p) (start p .pre)
+act-on-requires : tie.Need-act-on-requires
+act-on-requires c κs = let p = c .before .before .before in (fits p .0, (fits p .1, read p))
 
 returns-4 : tie.Need-returns-4
-returns-4 c =
-    let w = c .before .before .before .before .before .before .before .before in
-    let p = heard w in
-    let r = told w in
-    let o = sound p in
-    ap (λ (y : List ℕ). leaves (r .code) y (w .act .last .1 .1 .1 .1 .1 .0) (r .«used_command») (r .«used_data») (r .written))
-    (line-put (card p) _ (index p) (w .act .result .line) (within p) (start p .pre) (o .before .all-ok .ensures .1 (not-false _ (o .if1 .left))) (c .before .before .put-line .ensures .1))
-    ∙ accepted (card p) (lent (start p)) r _ (answers-call w) (c .before .before .before .before .before .if2 .left)
+returns-4 c = let w = c .before .before .before .before in done (w .before .before .before .before) (w .act-on .ensures)
 
 pub run-spec : {M : Type 1} → statement M
 run-spec =
     tie.close
     (tie.spec (λ c κs. search needs) (λ c κs. search needs) (λ c. search needs) returns (λ c κs. search needs) (λ c. search needs) (λ c. search needs) (λ c κs. search needs)
-    (λ c κs. search needs) (λ c. search needs) returns-2 (λ c κs. search needs) (λ c. search needs) (λ c. search needs) (λ c. search needs) sub-read-line part-read-line-start (λ c. search needs)
-    read-line-requires act-requires (λ c κs. search needs) (λ c. search needs) (λ c. search needs) returns-3 (λ c. search needs) sub-put-line part-put-line-start (λ c. search needs)
-    put-line-requires (λ c. search needs) (λ c. search needs) returns-4)
+    (λ c κs. search needs) (λ c. search needs) returns-2 (λ c κs. search needs) (λ c. search needs) (λ c. search needs) (λ c. search needs) (λ c. search needs) sub-crypt-on part-crypt-on-start (λ c. search needs)
+    crypt-on-requires (λ c. search needs) (λ c. search needs) returns-3 (λ c. search needs) sub-act-on part-act-on-start (λ c. search needs)
+    act-on-requires (λ c. search needs) (λ c. search needs) returns-4)

@@ -18,13 +18,14 @@ pub fn cases() -> Vec<Case> {
 }
 
 /// Cipher, the key's first byte (zeros follow), and the first sixteen keystream bytes of a zero IV: document 01 and
-/// C.2.1, C.7.1, C.4.2, C.3.1, C.6.1.
-const FIRST: [(u8, u8, &str); 5] = [
+/// C.2.1, C.7.1, C.4.2, C.3.1, C.6.1, C.1.1.
+const FIRST: [(u8, u8, &str); 6] = [
     (3, 0x80, "8d590ae9a74a7d056dc9ca74b72d1a45"),
     (1, 0x00, "27bede74018082da87d4e5b69f18bf66"),
     (2, 0x00, "edb70567375dcd7cd89554f85e27a7c6"),
     (4, 0x80, "0b5bcce20323e28e0fc203809c66ab73"),
     (5, 0x00, "f871ebef945b7272e40c04941dff0537"),
+    (6, 0x00, "c76e14e70836e6b6cb0e9c5a0bf03e1e"),
 ];
 
 /// An open with the command's own key, and sixteen zeros.

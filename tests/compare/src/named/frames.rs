@@ -73,5 +73,5 @@ fn in_turn() -> Case {
         }
         at += count;
     }
-    Case::new("five lines in turn", &commands, "end 40 0").data(vec![0; 160]).out(&out)
+    Case::new("six lines in turn", &commands, "end 48 0").data(vec![0; 192]).out(&out)
 }

@@ -2,7 +2,7 @@
 
 use super::published::name;
 use super::Case;
-use crate::cipher::by_number;
+use crate::cipher::{by_number, LAST};
 use crate::command::{self, IMAGE};
 use crate::images::image;
 use crate::machine::END;
@@ -41,7 +41,7 @@ fn with(mut image: Vec<u8>, at: usize, bytes: &[u8]) -> Vec<u8> {
 }
 
 fn taken() -> Vec<Case> {
-    (1..=5).map(|cipher| accepted(name(cipher).to_string(), &good(cipher))).collect()
+    (1..=LAST).map(|cipher| accepted(name(cipher).to_string(), &good(cipher))).collect()
 }
 
 /// States at the ends of their ranges.
@@ -55,7 +55,7 @@ fn greatest_and_least() -> Vec<Case> {
         accepted("Rabbit with zeros and carry 0".into(), &rabbit(0, 0)),
         accepted("Rabbit with all bits set and carry 1".into(), &rabbit(0xFF, 1)),
     ];
-    for cipher in 3..=5 {
+    for cipher in 3..=LAST {
         all.push(accepted(format!("{} of zeros", name(cipher)), &image(cipher, 0, &[])));
         let ones = vec![0xFF; length(cipher)];
         all.push(accepted(format!("{} with all bits set", name(cipher)), &image(cipher, 0, &ones)));
@@ -65,7 +65,7 @@ fn greatest_and_least() -> Vec<Case> {
 
 fn ciphers() -> Vec<Case> {
     let of = |cipher: u8| refused(format!("cipher {cipher}"), &image(cipher, 0, &[]));
-    [0, 6, 7, 128, 255].map(of).into()
+    [0, 7, 8, 128, 255].map(of).into()
 }
 
 /// Positions past 2^36 for each cipher, one with only its highest bit among them.
@@ -76,16 +76,16 @@ fn positions() -> Vec<Case> {
         let over = past.iter().map(move |&n| refused(format!("{} at n = {n}", name(cipher)), &at(n)));
         over.chain([accepted(format!("{} at n = 2^36", name(cipher)), &at(END))])
     };
-    (1..=5).flat_map(of).collect()
+    (1..=LAST).flat_map(of).collect()
 }
 
-/// Each byte after the state; KCipher-2's state leaves none.
+/// Each byte after the state; MUGI's state leaves none.
 fn padding() -> Vec<Case> {
     let of = |cipher: u8| {
         let places = 9 + length(cipher)..IMAGE;
         places.map(move |at| refused(format!("{}, byte {at} is 1", name(cipher)), &with(good(cipher), at, &[1])))
     };
-    (1..=5).flat_map(of).collect()
+    (1..=LAST).flat_map(of).collect()
 }
 
 /// Each cell of ZUC as 0, as 2^31 and with all bits set; R1 and R2 may be anything.

@@ -4,6 +4,7 @@
 
 use super::refusals::open;
 use super::{full, positions, Case};
+use crate::cipher::LAST;
 use crate::command::{self, IMAGE, RECORD};
 use crate::machine::END;
 
@@ -30,11 +31,14 @@ fn unknown(mut command: Vec<u8>) -> Vec<u8> {
     command
 }
 
+/// The least number that no cipher has.
+const NONE: u8 = LAST + 1;
+
 /// An IV with a byte beyond Rabbit's eight.
 const STRAY: [u8; 16] = [0, 0, 0, 0, 0, 0, 0, 0, 0, 0, 0, 0, 0, 0, 0, 1];
 
 fn from_tray() -> Vec<Case> {
-    let all = || command::open_tray(8, 6, 200, &STRAY);
+    let all = || command::open_tray(8, NONE, 200, &STRAY);
     let with = |line: u8, cipher: u8, number: u8, iv: &[u8]| command::open_tray(line, cipher, number, iv);
     let bad = |case: Case| case.tray(vec![0; 33]);
     let good = |case: Case| case.tray(vec![0; 32]);
@@ -42,7 +46,7 @@ fn from_tray() -> Vec<Case> {
         bad(case("open from the tray, 2, 1, 3, 4, 9, 10, 7", cut(unknown(all())), 2)),
         bad(case("open from the tray, 1, 3, 4, 9, 10, 7", cut(all()), 1)),
         bad(case("open from the tray, 3, 4, 9, 10, 7", all(), 3)),
-        bad(case("open from the tray, 4, 5, 9, 10, 7", with(0, 6, 200, &STRAY), 4)),
+        bad(case("open from the tray, 4, 5, 9, 10, 7", with(0, NONE, 200, &STRAY), 4)),
         bad(case("open from the tray, 5, 9, 10, 7", with(0, 2, 200, &STRAY), 5)),
         bad(case("open from the tray, 9, 10, 7", with(1, 2, 200, &STRAY), 9)),
         good(case("open from the tray, 10, 7", with(1, 2, 200, &STRAY), 10)),
@@ -54,17 +58,17 @@ fn from_tray() -> Vec<Case> {
 fn own() -> Vec<Case> {
     let with = |line: u8, cipher: u8, iv: &[u8]| command::open_own(line, cipher, &[0; RECORD], iv);
     vec![
-        case("open with its own key, 2, 1, 3, 4, 7", cut(unknown(with(8, 6, &STRAY))), 2),
-        case("open with its own key, 1, 3, 4, 7", cut(with(8, 6, &STRAY)), 1),
-        case("open with its own key, 3, 4, 7", with(8, 6, &STRAY), 3),
-        case("open with its own key, 4, 5, 7", with(0, 6, &STRAY), 4),
+        case("open with its own key, 2, 1, 3, 4, 7", cut(unknown(with(8, NONE, &STRAY))), 2),
+        case("open with its own key, 1, 3, 4, 7", cut(with(8, NONE, &STRAY)), 1),
+        case("open with its own key, 3, 4, 7", with(8, NONE, &STRAY), 3),
+        case("open with its own key, 4, 5, 7", with(0, NONE, &STRAY), 4),
         case("open with its own key, 5, 7", with(0, 2, &STRAY), 5),
         case("open with its own key, 7", with(1, 2, &STRAY), 7),
         case("open with its own key, all mended", with(1, 2, &[0; 16]), 0),
     ]
 }
 
-/// On a card with 32 bytes left of out and 40 of data, line 0 open at its first byte and line 6 one byte before the
+/// On a card with 9 bytes left of out and 40 of data, line 0 open at its first byte and line 6 one byte before the
 /// end.
 fn crypt() -> Vec<Case> {
     let far = command::resume(6, &positions::image(3, END - 1));
@@ -83,11 +87,11 @@ fn crypt() -> Vec<Case> {
         after("13, 12", command::crypt(6, 40), 13),
         after("11, 12", command::crypt(0, 41), 11),
         after("12", command::crypt(0, 40), 12),
-        after("all mended", command::crypt(0, 32), 0),
+        after("all mended", command::crypt(0, 9), 0),
     ]
 }
 
-/// On a card with line 0 open and 32 bytes left of out, too few for an image; mended, with 121 left.
+/// On a card with line 0 open and 9 bytes left of out, too few for an image; mended, with 170 left.
 fn park() -> Vec<Case> {
     let after = |name: &str, parks: usize, last: Vec<u8>, code: u8| {
         let accepted = parks * 2 + 1 + usize::from(code == 0);
@@ -138,7 +142,7 @@ fn pairs() -> Vec<Case> {
         case("1 for cut short before 5", cut(own(0, 1)), 1),
         case("1 for cut short before 6", vec![0x03, 0x01, 0x00], 1),
         case("1 for cut short before 8", cut(command::resume(1, &[0xFF; IMAGE])), 1),
-        case("3 before 4", own(8, 6), 3),
+        case("3 before 4", own(8, NONE), 3),
         case("3 before 8", command::resume(9, &[0xFF; IMAGE]), 3),
         case("4 before 5", own(0, 0), 4),
         case("5 before 7", stray, 5),
@@ -155,8 +159,8 @@ fn pairs_of_trays() -> Vec<Case> {
         case("1 for cut short before 9", cut(open(1, 4, 0, 0)), 1).tray(vec![0; 33]),
         case("3 before 9", open(8, 4, 0, 0), 3).tray(vec![0; 33]),
         case("3 before 10", open(8, 4, 0, 0), 3),
-        case("4 before 9", open(1, 6, 0, 0), 4).tray(vec![0; 33]),
-        case("4 before 10", open(1, 6, 0, 0), 4),
+        case("4 before 9", open(1, NONE, 0, 0), 4).tray(vec![0; 33]),
+        case("4 before 10", open(1, NONE, 0, 0), 4),
         case("5 before 9", open(0, 4, 0, 0), 5).tray(vec![0; 33]),
         case("5 before 10", open(0, 4, 0, 0), 5),
         case("9 before 10, key 0 of 31 bytes", open(1, 4, 0, 0), 9).tray(vec![0; 31]),

@@ -100,11 +100,16 @@ fn over_and_over(p: &Published) -> Case {
     carry(&mut b, 4, 3);
     frames(&mut b, 3, &[2, 0, 287]);
     let name = format!("{}: parked three times, against one crypt", p.name());
-    let case = Case::of(name, b.files(), "end 21 0");
-    case.part(881, &head(p, 181))
-        .part(1_045, &head(p, 256))
-        .part(1_289, &head(p, 411))
-        .joined(0..700, &[700..881, 881 + IMAGE..1_045, 1_045 + IMAGE..1_289, 1_289 + IMAGE..1_667])
+    let mut case = Case::of(name, b.files(), "end 21 0");
+    let (mut at, mut pieces) = (700, Vec::new());
+    for (from, parked) in [(0, 181), (181, 256), (256, 411)] {
+        let image = at + parked - from;
+        case = case.part(image, &head(p, parked));
+        pieces.push(at..image);
+        at = image + IMAGE;
+    }
+    pieces.push(at..at + 289);
+    case.joined(0..700, &pieces)
 }
 
 /// An image resumed on two lines that are open at once, with frames in turn.
@@ -120,9 +125,10 @@ fn together(p: &Published) -> Case {
         frames(&mut b, 6, &[count]);
     }
     let case = Case::of(format!("{}: an image resumed on two lines", p.name()), b.files(), "end 11 0");
-    let case = case.part(0, &p.stream[..6]).part(95, &p.stream[6..9]).part(98, &p.stream[6..9]);
-    let case = case.part(101, &p.stream[9..16]).part(108, &p.stream[9..16]);
-    case.part(115, &p.stream[16..32]).part(131, &p.stream[16..32])
+    let at = 6 + IMAGE;
+    let case = case.part(0, &p.stream[..6]).part(at, &p.stream[6..9]).part(at + 3, &p.stream[6..9]);
+    let case = case.part(at + 6, &p.stream[9..16]).part(at + 13, &p.stream[9..16]);
+    case.part(at + 20, &p.stream[16..32]).part(at + 36, &p.stream[16..32])
 }
 
 /// An image resumed on the line that it was parked from, closed, resumed there again, parked and resumed again.
@@ -140,6 +146,7 @@ fn one_after_the_other(p: &Published) -> Case {
     carry(&mut b, 2, 2);
     frames(&mut b, 2, &[23]);
     let case = Case::of(format!("{}: an image resumed three times on its line", p.name()), b.files(), "end 13 0");
-    let case = case.part(98, &p.stream[9..32]).part(121, &p.stream[9..32]);
-    case.part(144 + IMAGE, &p.stream[9..32]).same(9..98, 144..233)
+    let (at, again) = (9 + IMAGE, 9 + IMAGE + 2 * 23);
+    let case = case.part(at, &p.stream[9..32]).part(at + 23, &p.stream[9..32]);
+    case.part(again + IMAGE, &p.stream[9..32]).same(9..at, again..again + IMAGE)
 }

@@ -3,18 +3,19 @@
 
 use super::published::{name, unit};
 use super::{published, Case};
+use crate::cipher::LAST;
 use crate::command::{self, IMAGE};
 use crate::images;
 use crate::machine::END;
 
 pub fn cases() -> Vec<Case> {
     let each = |cipher: u8| [last_bytes(cipher), end(cipher), far(cipher)].into_iter().flatten();
-    (1..=5).flat_map(each).collect()
+    (1..=LAST).flat_map(each).collect()
 }
 
 /// A state with few bits set, and the last four bytes of its unit, worked out by hand. ZUC with cells of 1: W is
 /// X0 = 00000001, X3 is 00010000. Rabbit with X6 alone: its high and low half are the last two parts, low byte first.
-/// SNOW 2.0 with s0 alone gives s0; KCipher-2 with A4 alone gives it as the low word.
+/// SNOW 2.0 with s0 alone gives s0; KCipher-2 with A4 alone gives it as the low word, MUGI the low half of a2.
 fn state(cipher: u8) -> (Vec<u8>, [u8; 4]) {
     let word = [0xA1, 0xB2, 0xC3, 0xD4];
     let alone = |place: usize, length: usize| {
@@ -26,6 +27,7 @@ fn state(cipher: u8) -> (Vec<u8>, [u8; 4]) {
         1 => ([[0, 0, 0, 1].repeat(16), vec![0; 8]].concat(), [0, 1, 0, 1]),
         2 => (alone(6, 65), [0xD4, 0xC3, 0xB2, 0xA1]),
         5 => (alone(4, 80), word),
+        6 => (alone(5, 152), word),
         _ => (alone(0, 72), word),
     }
 }

@@ -3,11 +3,13 @@
 
 use super::published::name;
 use super::{full, positions, Case};
-use crate::command::{self, IMAGE, RECORD};
+use crate::cipher::LAST;
+use crate::command::{self, padded, IMAGE, RECORD};
 
 pub fn cases() -> Vec<Case> {
-    let groups = [numbers(), cut_short(), unknown(), lines(), ciphers(), open_or_idle(), stray(), trays(), data()];
-    groups.into_iter().flatten().collect()
+    let read = [numbers(), cut_short(), short_images(), unknown(), lines(), ciphers()];
+    let judged = [open_or_idle(), stray(), trays(), data()];
+    read.into_iter().chain(judged).flatten().collect()
 }
 
 /// An open that is accepted on an idle line, whatever the tray.
@@ -22,7 +24,7 @@ pub fn each(line: u8) -> [Vec<u8>; 6] {
         command::open_own(line, 4, &[0; RECORD], &[0; 16]),
         command::crypt(line, 0),
         command::park(line),
-        command::resume(line, &[&[4], &[0; IMAGE - 1][..]].concat()),
+        command::resume(line, &padded(&[4], IMAGE)),
         command::close(line),
     ]
 }
@@ -44,11 +46,11 @@ const EIGHT: &str = "call code cmd data out\n1 8 0 0 0\nend 0 8\n";
 const NINE: &str = "call code cmd data out\n1 9 0 0 0\nend 0 9\n";
 const TEN: &str = "call code cmd data out\n1 10 0 0 0\nend 0 10\n";
 const ELEVEN: &str = "call code cmd data out\n1 0 51 0 0\n2 11 0 0 0\nend 1 11\n";
-const THIRTEEN: &str = "call code cmd data out\n1 0 91 0 0\n2 13 0 0 0\nend 1 13\n";
+const THIRTEEN: &str = "call code cmd data out\n1 0 163 0 0\n2 13 0 0 0\nend 1 13\n";
 
 /// One case for each number, with its table; that of 12 is long.
 fn numbers() -> Vec<Case> {
-    let key = command::padded(&[1; 17], RECORD);
+    let key = padded(&[1; 17], RECORD);
     let from_tray = || command::open_tray(0, 1, 0, &[0; 16]);
     let far = positions::image(3, (1 << 36) - 1);
     vec![
@@ -56,7 +58,7 @@ fn numbers() -> Vec<Case> {
         refused(1, "a crypt of three bytes", &[], vec![3, 0, 0]).table(ONE),
         refused(2, "a first byte of 07", &[], vec![7, 0, 0, 0]).table(TWO),
         refused(3, "a close of line 8", &[], vec![6, 8]).table(THREE),
-        refused(4, "an open with cipher 6", &[], command::open_own(0, 6, &[0; RECORD], &[0; 16])).table(FOUR),
+        refused(4, "an open with cipher 7", &[], command::open_own(0, 7, &[0; RECORD], &[0; 16])).table(FOUR),
         refused(5, "an open on an open line", &[open(0)], open(0)).table(FIVE),
         refused(6, "a park of an idle line", &[], vec![4, 0]).table(SIX),
         refused(7, "ZUC with 17 key bytes", &[], command::open_own(0, 1, &key, &[0; 16])).table(SEVEN),
@@ -80,9 +82,20 @@ fn cut_short() -> Vec<Case> {
     each(0).into_iter().flat_map(cut).collect()
 }
 
+/// Images of 89 bytes, which all states but MUGI's would fit in: a resume is cut short with such an image alone, and
+/// takes commands behind it for padding.
+fn short_images() -> Vec<Case> {
+    let short = |cipher: u8| command::resume(0, &positions::image(cipher, 5)[..89]);
+    let behind = |cipher: u8| [short(cipher), command::crypt(0, 0).repeat(18)].concat();
+    let what = |cipher: u8| format!("{}, a resume with an image of 89 bytes", name(cipher));
+    let alone = (1..=LAST).map(|cipher| refused(1, what(cipher), &[], short(cipher)));
+    let padded = (1..LAST).map(|cipher| refused(8, what(cipher) + " and frames behind it", &[], behind(cipher)));
+    alone.chain(padded).collect()
+}
+
 /// First bytes that are no command, before operands that would do for any.
 fn unknown() -> Vec<Case> {
-    let of = |first: u8| refused(2, format!("a command {first:02x}"), &[], [&[first], &[0; 100][..]].concat());
+    let of = |first: u8| refused(2, format!("a command {first:02x}"), &[], padded(&[first], 2 + IMAGE));
     [0x00, 0x07, 0x08, 0x0A, 0x10, 0x81, 0xFF].map(of).into()
 }
 
@@ -119,7 +132,7 @@ fn open_or_idle() -> Vec<Case> {
 /// The first and last byte beyond the key and the IV, for each cipher that leaves any, by both opens.
 fn stray() -> Vec<Case> {
     let mut all = Vec::new();
-    for cipher in [1, 2, 3, 5] {
+    for cipher in [1, 2, 3, 5, 6] {
         for place in [16, 31] {
             let mut key = vec![9; 16];
             key.resize(RECORD, 0);

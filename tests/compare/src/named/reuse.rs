@@ -37,8 +37,9 @@ fn after(p: &Published, q: &Published) -> Case {
         vec![p.open(1), frame(11), command::close(1), q.open(1), frame(32)],
     ];
     let case = Case::new(name, &commands.concat(), "end 11 0").data(vec![0; 63]);
-    let case = case.part(0, &p.stream[..7]).part(96, &q.stream[..13]);
-    case.part(109, &p.stream[..11]).part(120, &q.stream[..32])
+    let at = 7 + IMAGE;
+    let case = case.part(0, &p.stream[..7]).part(at, &q.stream[..13]);
+    case.part(at + 13, &p.stream[..11]).part(at + 24, &q.stream[..32])
 }
 
 /// Annex C's S(0) parked from a line that had a cipher before it: the image is as from a fresh card.
