@@ -5,8 +5,8 @@ ghost use mathlib.Core.List.{_++_};
 ghost use Prim.Native.Nat.{_+_, _/_, _≤_, _<_};
 ghost use lib.ListN.{length, take, drop, getD};
 ghost use Rattle.words.specs.Strings.{bytesOf};
-ghost use Rattle.field.specs.Tables.{columnList};
 ghost use Rattle.keystream.specs.Stream.{stateAt, byteAt, xorFrom, Did};
+ghost use Rattle.mugi.specs.Tables.{mixingList};
 ghost use Rattle.mugi.specs.Cipher.{left as leftOf, right as rightOf};
 ghost use Rattle.crypt_mugi.specs.Generator.{gen};
 use mugi::Mugi;
@@ -51,7 +51,7 @@ fn put(z: u64, text: &[u8], out: &mut [u8])
 
 // A whole unit, which goes to the start of out.
 fn unit(st: Mugi, t: &[u32; 256], text: &[u8], out: &mut [u8]) -> Mugi
-    requires { ⌜ now t ≡ columnList ⌝ }
+    requires { ⌜ now t ≡ mixingList ⌝ }
     requires { ⌜ (8 ≤ length (now text)) × (8 ≤ length (now out)) ⌝ }
     ensures { λ r. ⌜ Did gen 0 st 8 (now (text .entry)) (now (out .entry)) r (now (out .exit)) ⌝ }
 {
@@ -61,7 +61,7 @@ fn unit(st: Mugi, t: &[u32; 256], text: &[u8], out: &mut [u8]) -> Mugi
 
 // Four units.
 fn four(st: Mugi, t: &[u32; 256], text: &[u8], out: &mut [u8]) -> Mugi
-    requires { ⌜ now t ≡ columnList ⌝ }
+    requires { ⌜ now t ≡ mixingList ⌝ }
     requires { ⌜ (32 ≤ length (now text)) × (32 ≤ length (now out)) ⌝ }
     ensures { λ r. ⌜ Did gen 0 st 32 (now (text .entry)) (now (out .entry)) r (now (out .exit)) ⌝ }
 {
@@ -76,7 +76,7 @@ fn four(st: Mugi, t: &[u32; 256], text: &[u8], out: &mut [u8]) -> Mugi
 
 // used bytes of a unit from its byte from on; the state steps where the unit is used up.
 fn part(st: Mugi, t: &[u32; 256], from: usize, used: usize, text: &[u8], out: &mut [u8]) -> Mugi
-    requires { ⌜ now t ≡ columnList ⌝ }
+    requires { ⌜ now t ≡ mixingList ⌝ }
     requires { ⌜ (from + used ≤ 8) × ((used ≤ length (now text)) × (used ≤ length (now out))) ⌝ }
     ensures { λ r. ⌜ Did gen from st used (now (text .entry)) (now (out .entry)) r (now (out .exit)) ⌝ }
 {
@@ -87,7 +87,7 @@ fn part(st: Mugi, t: &[u32; 256], from: usize, used: usize, text: &[u8], out: &m
 
 // A text from the start of a unit on, a unit to a turn.
 fn ones(st: Mugi, t: &[u32; 256], text: &[u8], out: &mut [u8]) -> Mugi
-    requires { ⌜ now t ≡ columnList ⌝ }
+    requires { ⌜ now t ≡ mixingList ⌝ }
     requires { ⌜ length (now text) ≤ length (now out) ⌝ }
     ensures { λ r. ⌜ Did gen 0 st (length (now (text .entry))) (now (text .entry)) (now (out .entry)) r (now (out .exit)) ⌝ }
 {
@@ -103,7 +103,7 @@ fn ones(st: Mugi, t: &[u32; 256], text: &[u8], out: &mut [u8]) -> Mugi
 
 // A text from the start of a unit on, four units to a turn.
 fn fours(st: Mugi, t: &[u32; 256], text: &[u8], out: &mut [u8]) -> Mugi
-    requires { ⌜ now t ≡ columnList ⌝ }
+    requires { ⌜ now t ≡ mixingList ⌝ }
     requires { ⌜ length (now text) ≤ length (now out) ⌝ }
     ensures { λ r. ⌜ Did gen 0 st (length (now (text .entry))) (now (text .entry)) (now (out .entry)) r (now (out .exit)) ⌝ }
 {
@@ -123,7 +123,7 @@ pub fn crypt(st: Mugi, skip: usize, text: &[u8], out: &mut [u8]) -> Mugi
     requires { ⌜ (skip < 8) × (length (now text) ≤ length (now out)) ⌝ }
     ensures { λ r. ⌜ (r ≡ stateAt gen st 0 ((skip + length (now (text .entry))) / 8)) × (now (out .exit) ≡ xorFrom (byteAt gen st 0) skip (now (text .entry)) ++ drop (length (now (text .entry))) (now (out .entry))) ⌝ }
 {
-    let t = field::tables::column();
+    let t = mugi::tables::mixing();
     let head = writer::least((8 - skip) % 8, text.len());
     let cur = part(st, &t, skip, head, text, out);
     fours(cur, &t, &text[head..], &mut out[head..])

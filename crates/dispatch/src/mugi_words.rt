@@ -106,7 +106,7 @@ pub fn open(key: &[u8], iv: &[u8]) -> [u32; 38]
     requires { ⌜ length (now iv) ≡ 16 ⌝ }
     ensures { λ r. ⌜ r ≡ mugi .init (now (key .entry)) (now (iv .entry)) ⌝ }
 {
-    let t = field::tables::column();
+    let t = mugi::tables::mixing();
     words(Mugi::init(key, iv, &t))
 }
 

@@ -63,14 +63,14 @@ exchanged k m h l i =
 
 -- the part in the lowest place, turned, is the part in place j
 module _ (a b c d : ℕ) (hb : Byte b) (hc : Byte c) (hd : Byte d) where
-  up1 : rotl 8 (word a b c d) ≡ word b c d a
+  pub up1 : rotl 8 (word a b c d) ≡ word b c d a
   up1 = ap (rotl 8) {y = a * 2 ^ 24 + ((b * 2 ^ 8 + c) * 2 ^ 8 + d)} (omega arith) ∙ exchanged 8 24 a ((b * 2 ^ 8 + c) * 2 ^ 8 + d) (omega arith)
 
-  up2 : rotl 16 (word a b c d) ≡ word c d a b
+  pub up2 : rotl 16 (word a b c d) ≡ word c d a b
   up2 =
       ap (rotl 16) {y = (a * 2 ^ 8 + b) * 2 ^ 16 + (c * 2 ^ 8 + d)} (omega arith) ∙ exchanged 16 16 (a * 2 ^ 8 + b) (c * 2 ^ 8 + d) (omega arith) ∙ omega arith
 
-  up3 : rotl 24 (word a b c d) ≡ word d a b c
+  pub up3 : rotl 24 (word a b c d) ≡ word d a b c
   up3 = exchanged 24 8 ((a * 2 ^ 8 + b) * 2 ^ 8 + c) d hd ∙ omega arith
 
 turned-part : (j s : ℕ) → j < 4 → Byte s → turned j (column 0 s) ≡ column j s

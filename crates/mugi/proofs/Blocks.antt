@@ -1,23 +1,26 @@
--- Blocks of 64 bits and their words. A rotation moves the lower part of a block up and puts the upper part below it, so that it fits a block. The rows of M are
--- the coefficients of T's product from the lowest up, so M of four bytes is T of them in the other order, and a turn of the bytes by two turns either by two: T of
--- the bytes in pairs is M with its halves exchanged, in the other order. From two such words F's last line is put together by moves alone: a rotation by 48 takes
--- the halves of one to the ends of a block, and the other goes between them.
+-- Blocks of 64 bits and their words. A rotation moves the lower part of a block up and puts the upper part below it, so that it fits a block. The table's
+-- entries are tested against SUB's list. The columns of M are turns of one another, so a turn of an entry is the part of M, its halves exchanged, from a byte in
+-- another place, and the four parts add up byte by byte. From two such words F's last line is put together by moves alone: a rotation by 48 takes the halves of one
+-- to the ends of a block, and the other goes between them.
 -- Assumes nothing.
 use mathlib.Core.Path.{_≡_, ap, ap₂, sym, _∙_, subst}
 use Prim.Native.Nat.{ℕ, _+_, _*_, _/_, _%_, _<_, _^_}
-use native.Mathlib.Nat.{mod-lt, mod-eq-of-lt, add-zero, mul-mod-left}
+use native.Mathlib.Nat.{mod-lt, add-zero, mul-mod-left}
 use native.Mathlib.Omega.{arith}
 use lib.Arith.{digits-lt}
-use lib.Bits.{xor-comm}
-use lib.Pow.{pow-add, pow-pos, shl-shr, shr-lt, shr-shr, mod-pow-add, high, low}
-use Rattle.words.specs.Word.{_⊕_, word, high as high16, low as low16, b0, b1, b2, b3}
+use lib.ListN.{getD}
+use lib.Pow.{pow-add, pow-pos, shl-shr, shr-lt, mod-pow-add, high, low}
+use Rattle.words.specs.Word.{_⊕_, word, rotl, high as high16, low as low16, b0, b1, b2, b3}
 use Rattle.words.specs.Lists.{Byte, Word}
 use Rattle.words.proofs.Ranges.{byte-of, join-word}
-use Rattle.words.proofs.Xor.{byte-xor, xor-assoc}
+use Rattle.words.proofs.Table.{entries}
+use Rattle.words.proofs.Xor.{byte-xor, word-xor}
 use Rattle.field.specs.Gf8.{mul8}
-use Rattle.field.specs.Aes.{aes, sub, mix, fnT}
+use Rattle.field.specs.Aes.{aes, sub}
+use Rattle.field.specs.Tables.{subList}
 use Rattle.field.proofs.Additive.{mul-byte}
-use Rattle.field.proofs.Columns.{sub-byte}
+use Rattle.field.proofs.Columns.{sub-rule, sub-byte, up1, up2, up3}
+use Rattle.mugi.specs.Tables.{mixingList}
 use Rattle.mugi.specs.Cipher.{left, right, rotl64, m, mixed, shuffled, f}
 
 moved-up : (x j k : ℕ) → x * 2 ^ k % 2 ^ (j + k) ≡ x % 2 ^ j * 2 ^ k
@@ -33,57 +36,27 @@ rotated j k {x} h =
     (subst (λ (n : ℕ). n + x / 2 ^ j < 2 ^ j * 2 ^ k) (sym (moved-up x j k))
     (digits-lt (mod-lt x (pow-pos j)) (shr-lt k j h)))
 
--- a sum's first two terms after its last two
-turned : (a b c d : ℕ) → a ⊕ b ⊕ c ⊕ d ≡ c ⊕ d ⊕ a ⊕ b
-turned a b c d = xor-assoc (a ⊕ b) c d ∙ xor-comm (a ⊕ b) (c ⊕ d) ∙ sym (xor-assoc (c ⊕ d) a b)
+-- M's part from the substituted byte s in the highest place
+abbrev part : ℕ → ℕ
+part s = word (mul8 aes s 2) s s (mul8 aes s 3)
 
--- the bytes of w in the other order
-abbrev reversed : ℕ → ℕ
-reversed w = word (b0 w) (b1 w) (b2 w) (b3 w)
+-- entry k of the table is the part from SUB[k]: the test reads SUB off its list
+listed : ℕ → ℕ
+listed k = part (getD subList k 0)
 
--- the bytes of (a, b, c, d)
-module _ (a b c d : ℕ) (ha : Byte a) (hb : Byte b) (hc : Byte c) (hd : Byte d) where
-  abbrev w : ℕ
-  w = word a b c d
+listed-rule : (k : ℕ) → k < 2 ^ 8 → getD mixingList k 0 ≡ listed k
+unfolding listed mixingList subList
+listed-rule k h = entries listed mixingList tt k h
 
-  upper1 : w / 2 ^ 8 ≡ (a * 2 ^ 8 + b) * 2 ^ 8 + c
-  upper1 = high ((a * 2 ^ 8 + b) * 2 ^ 8 + c) 8 hd
+entry : (x : ℕ) → getD mixingList (x % 2 ^ 8) 0 ≡ part (sub (x % 2 ^ 8))
+unfolding listed
+entry x = listed-rule (x % 2 ^ 8) (byte-of x) ∙ ap part (sub-rule (x % 2 ^ 8) (byte-of x))
 
-  upper2 : w / 2 ^ 16 ≡ a * 2 ^ 8 + b
-  upper2 = sym (shr-shr w 8 8) ∙ ap (λ (n : ℕ). n / 2 ^ 8) upper1 ∙ high (a * 2 ^ 8 + b) 8 hc
+-- a word turned by half is its halves exchanged
+exchanged : (w : ℕ) → rotl 16 w ≡ low16 w * 2 ^ 16 + high16 w
+exchanged w = ap (λ (n : ℕ). n + w / 2 ^ 16) (moved-up w 16 16)
 
-  upper3 : w / 2 ^ 24 ≡ a
-  upper3 = sym (shr-shr w 16 8) ∙ ap (λ (n : ℕ). n / 2 ^ 8) upper2 ∙ high a 8 hb
-
-  is-b0 : b0 w ≡ d
-  is-b0 = low ((a * 2 ^ 8 + b) * 2 ^ 8 + c) 8 hd
-
-  is-b1 : b1 w ≡ c
-  is-b1 = ap (λ (n : ℕ). n % 2 ^ 8) upper1 ∙ low (a * 2 ^ 8 + b) 8 hc
-
-  is-b2 : b2 w ≡ b
-  is-b2 = ap (λ (n : ℕ). n % 2 ^ 8) upper2 ∙ low a 8 hb
-
-  is-b3 : b3 w ≡ a
-  is-b3 = ap (λ (n : ℕ). n % 2 ^ 8) upper3 ∙ mod-eq-of-lt ha
-
-  word-reversed : reversed w ≡ word d c b a
-  word-reversed = λ i. word (is-b0 i) (is-b1 i) (is-b2 i) (is-b3 i)
-
-  -- the word with its halves exchanged
-  lower2 : w % 2 ^ 16 ≡ c * 2 ^ 8 + d
-  lower2 =
-      let e : w ≡ (a * 2 ^ 8 + b) * 2 ^ 16 + (c * 2 ^ 8 + d) = omega arith in
-      ap (λ (n : ℕ). n % 2 ^ 16) e ∙ low (a * 2 ^ 8 + b) 16 (omega arith)
-
-  halves-exchanged : low16 w * 2 ^ 16 + high16 w ≡ word c d a b
-  halves-exchanged = ap₂ (λ (p q : ℕ). p * 2 ^ 16 + q) lower2 upper2 ∙ omega arith
-
-  fnT-bytes : fnT w ≡ mix (sub a) (sub b) (sub c) (sub d)
-  unfolding fnT
-  fnT-bytes = λ i. mix (sub (is-b3 i)) (sub (is-b2 i)) (sub (is-b1 i)) (sub (is-b0 i))
-
--- M of the bytes s, t, u and v, from T's product of t, s, v and u
+-- M of the bytes s, t, u and v, from the parts of each
 module _ (s t u v : ℕ) (hs : Byte s) (ht : Byte t) (hu : Byte u) (hv : Byte v) where
   two : {x : ℕ} → Byte x → Byte (mul8 aes x 2)
   two {x} h = mul-byte aes 8 x 2 h
@@ -91,54 +64,48 @@ module _ (s t u v : ℕ) (hs : Byte s) (ht : Byte t) (hu : Byte u) (hv : Byte v)
   three : {x : ℕ} → Byte x → Byte (mul8 aes x 3)
   three {x} h = mul-byte aes 8 x 3 h
 
-  -- Q0 to Q3
-  abbrev q0 : ℕ
-  q0 = mul8 aes s 2 ⊕ mul8 aes t 3 ⊕ u ⊕ v
+  -- Q0 to Q3, without what v adds
+  h0 : Byte (mul8 aes s 2 ⊕ mul8 aes t 3 ⊕ u)
+  h0 = byte-xor (byte-xor (two hs) (three ht)) hu
 
-  abbrev q1 : ℕ
-  q1 = s ⊕ mul8 aes t 2 ⊕ mul8 aes u 3 ⊕ v
+  h1 : Byte (s ⊕ mul8 aes t 2 ⊕ mul8 aes u 3)
+  h1 = byte-xor (byte-xor hs (two ht)) (three hu)
 
-  abbrev q2 : ℕ
-  q2 = s ⊕ t ⊕ mul8 aes u 2 ⊕ mul8 aes v 3
+  h2 : Byte (s ⊕ t ⊕ mul8 aes u 2)
+  h2 = byte-xor (byte-xor hs ht) (two hu)
 
-  abbrev q3 : ℕ
-  q3 = mul8 aes s 3 ⊕ t ⊕ u ⊕ mul8 aes v 2
-
-  h0 : Byte q0
-  h0 = byte-xor (byte-xor (byte-xor (two hs) (three ht)) hu) hv
-
-  h1 : Byte q1
-  h1 = byte-xor (byte-xor (byte-xor hs (two ht)) (three hu)) hv
-
-  h2 : Byte q2
-  h2 = byte-xor (byte-xor (byte-xor hs ht) (two hu)) (three hv)
-
-  h3 : Byte q3
-  h3 = byte-xor (byte-xor (byte-xor (three hs) ht) hu) (two hv)
-
-  mix-paired : mix t s v u ≡ word q1 q0 q3 q2
-  unfolding mix
-  mix-paired = λ i.
-      word (turned (mul8 aes u 3) v s (mul8 aes t 2) i) (turned u v (mul8 aes s 2) (mul8 aes t 3) i) (turned u (mul8 aes v 2) (mul8 aes s 3) t i)
-      (turned (mul8 aes u 2) (mul8 aes v 3) s t i)
-
-  mix-reversed : reversed (mix t s v u) ≡ low16 (m s t u v) * 2 ^ 16 + high16 (m s t u v)
-  unfolding m
-  mix-reversed =
-      ap reversed mix-paired ∙ word-reversed q1 q0 q3 q2 h1 h0 h3 h2 ∙ sym (halves-exchanged q0 q1 q2 q3 h0 h1 h2 h3)
+  h3 : Byte (mul8 aes s 3 ⊕ t ⊕ u)
+  h3 = byte-xor (byte-xor (three hs) ht) hu
 
   m-word : Word (m s t u v)
   unfolding m
-  m-word = join-word h0 h1 h2 h3
+  m-word = join-word (byte-xor h0 hv) (byte-xor h1 hv) (byte-xor h2 (three hv)) (byte-xor h3 (two hv))
+
+  parts : rotl 16 (part s) ⊕ rotl 8 (part t) ⊕ part u ⊕ rotl 24 (part v) ≡ rotl 16 (m s t u v)
+  unfolding m
+  parts =
+      (λ i.
+      up2 (mul8 aes s 2) s s (mul8 aes s 3) hs hs (three hs) i ⊕ up1 (mul8 aes t 2) t t (mul8 aes t 3) ht ht (three ht) i ⊕ part u
+      ⊕ up3 (mul8 aes v 2) v v (mul8 aes v 3) hv hv (three hv) i)
+      ∙ ap (λ (x : ℕ). x ⊕ part u ⊕ word (mul8 aes v 3) (mul8 aes v 2) v v) (word-xor s t (three hs) (two hs) hs ht (three ht) (two ht))
+      ∙ ap (λ (x : ℕ). x ⊕ word (mul8 aes v 3) (mul8 aes v 2) v v)
+      (word-xor (s ⊕ t) (mul8 aes u 2) (byte-xor (three hs) ht) (byte-xor (two hs) (three ht)) (byte-xor hs (two ht)) hu hu (three hu))
+      ∙ word-xor (s ⊕ t ⊕ mul8 aes u 2) (mul8 aes v 3) h3 h0 h1 (two hv) hv hv
+      ∙ sym (up2 (mul8 aes s 2 ⊕ mul8 aes t 3 ⊕ u ⊕ v) (s ⊕ mul8 aes t 2 ⊕ mul8 aes u 3 ⊕ v) (s ⊕ t ⊕ mul8 aes u 2 ⊕ mul8 aes v 3)
+      (mul8 aes s 3 ⊕ t ⊕ u ⊕ mul8 aes v 2) (byte-xor h1 hv) (byte-xor h2 (three hv)) (byte-xor h3 (two hv)))
 
 sub-of : (x : ℕ) → Byte (sub (x % 2 ^ 8))
 sub-of x = sub-byte (x % 2 ^ 8) (byte-of x)
 
-pub mixed-by : (w : ℕ) → reversed (fnT (word (b2 w) (b3 w) (b0 w) (b1 w))) ≡ low16 (mixed w) * 2 ^ 16 + high16 (mixed w)
+-- M with its halves exchanged, from the table
+pub mixed-by : (w : ℕ)
+    → rotl 16 (getD mixingList (b3 w) 0) ⊕ rotl 8 (getD mixingList (b2 w) 0) ⊕ getD mixingList (b1 w) 0 ⊕ rotl 24 (getD mixingList (b0 w) 0)
+    ≡ low16 (mixed w) * 2 ^ 16 + high16 (mixed w)
 unfolding mixed
 mixed-by w =
-    ap reversed (fnT-bytes (b2 w) (b3 w) (b0 w) (b1 w) (byte-of (w / 2 ^ 16)) (byte-of (w / 2 ^ 24)) (byte-of w) (byte-of (w / 2 ^ 8)))
-    ∙ mix-reversed (sub (b3 w)) (sub (b2 w)) (sub (b1 w)) (sub (b0 w)) (sub-of (w / 2 ^ 24)) (sub-of (w / 2 ^ 16)) (sub-of (w / 2 ^ 8)) (sub-of w)
+    (λ i. rotl 16 (entry (w / 2 ^ 24) i) ⊕ rotl 8 (entry (w / 2 ^ 16) i) ⊕ entry (w / 2 ^ 8) i ⊕ rotl 24 (entry w i))
+    ∙ parts (sub (b3 w)) (sub (b2 w)) (sub (b1 w)) (sub (b0 w)) (sub-of (w / 2 ^ 24)) (sub-of (w / 2 ^ 16)) (sub-of (w / 2 ^ 8)) (sub-of w)
+    ∙ exchanged (mixed w)
 
 pub mixed-word : (w : ℕ) → Word (mixed w)
 unfolding mixed

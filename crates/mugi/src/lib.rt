@@ -1,11 +1,13 @@
 // MUGI (ISO/IEC 18033-4, 8.1): a state by value, its step, its output, four of both at once, and its start from key and IV.
-// A caller holds the lengths of key and IV, sixteen bytes each, and lends the table that `field::tables::column` makes.
+// A caller holds the lengths of key and IV, sixteen bytes each, and lends the table that `tables` makes.
+pub mod tables;
+
 ghost use mathlib.Core.Path.{_≡_};
 ghost use Prim.Native.Nat.{_+_, _*_, _/_, _%_, _^_, _≤_};
 ghost use lib.ListN.{length};
-ghost use Rattle.words.specs.Word.{_∥_, word, high, low, b0, b1, b2, b3};
+ghost use Rattle.words.specs.Word.{_∥_, high, low};
 ghost use Rattle.words.specs.Lists.{iter};
-ghost use Rattle.field.specs.Tables.{columnList};
+ghost use Rattle.mugi.specs.Tables.{mixingList};
 ghost use Rattle.mugi.specs.Cipher.{block, left as leftOf, right as rightOf, rotl64, rotr64, blockAt, mixed as mixedOf, f as fOf, lambda1, next, strm, spread as spreadOf, turned, keyed as keyedOf, added, withIv, init as initOf};
 ghost use Rattle.mugi.specs.Steps.{stirred, first as firstOf, second as secondOf, moved as movedOf, fourOf};
 
@@ -87,34 +89,16 @@ fn block_at(s: &[u8], at: usize) -> u64
     join(l, r)
 }
 
-// The bytes of w in the other order.
-fn reversed(w: u32) -> u32
-    ensures { λ r. ⌜ r ≡ word (b0 w) (b1 w) (b2 w) (b3 w) ⌝ }
-{
-    let x0 = w % 256;
-    let x1 = w / 256 % 256;
-    let x2 = w / 65536 % 256;
-    let x3 = w / 16777216 % 256;
-    ((x0 * 256 + x1) * 256 + x2) * 256 + x3
-}
-
-// The bytes of w, each pair of them in the other order.
-fn paired(w: u32) -> u32
-    ensures { λ r. ⌜ r ≡ word (b2 w) (b3 w) (b0 w) (b1 w) ⌝ }
-{
-    let x0 = w / 65536 % 256;
-    let x1 = w / 16777216 % 256;
-    let x2 = w % 256;
-    let x3 = w / 256 % 256;
-    ((x0 * 256 + x1) * 256 + x2) * 256 + x3
-}
-
-// M of what S_R makes of the bytes of w, its halves exchanged: T of the bytes in pairs, in the other order.
+// M of what S_R makes of the bytes of w, its halves exchanged: a byte in another place gives what it gives in the highest, rotated.
 fn mixed(w: u32, t: &[u32; 256]) -> u32
-    requires { ⌜ now t ≡ columnList ⌝ }
+    requires { ⌜ now t ≡ mixingList ⌝ }
     ensures { λ r. ⌜ r ≡ low (mixedOf w) ∥ high (mixedOf w) ⌝ }
 {
-    reversed(field::sub_word(t, paired(w)))
+    let x3 = t[(w % 256) as usize];
+    let x2 = t[(w / 256 % 256) as usize];
+    let x1 = t[(w / 65536 % 256) as usize];
+    let x0 = t[(w / 16777216 % 256) as usize];
+    words::rotl16(x0) ^ words::rotl8(x1) ^ x2 ^ words::rotl24(x3)
 }
 
 // Q4 Q5 Q2 Q3 Q0 Q1 Q6 Q7, of l, which is Q2 Q3 Q0 Q1, and r, which is Q6 Q7 Q4 Q5.
@@ -126,7 +110,7 @@ fn shuffle(l: u32, r: u32) -> u64
 
 // F, of X xor T.
 fn f(x: u64, t: &[u32; 256]) -> u64
-    requires { ⌜ now t ≡ columnList ⌝ }
+    requires { ⌜ now t ≡ mixingList ⌝ }
     ensures { λ y. ⌜ y ≡ fOf x ⌝ }
 {
     let l = mixed(left(x), t);
@@ -189,7 +173,7 @@ fn add(a: [u64; 3], v: [u64; 3]) -> [u64; 3]
 
 // A turn of rho1, without b.
 fn turn(a: [u64; 3], t: &[u32; 256]) -> [u64; 3]
-    requires { ⌜ now t ≡ columnList ⌝ }
+    requires { ⌜ now t ≡ mixingList ⌝ }
     ensures { λ r. ⌜ r ≡ turned a ⌝ }
 {
     let x = f(a[1], t);
@@ -198,7 +182,7 @@ fn turn(a: [u64; 3], t: &[u32; 256]) -> [u64; 3]
 
 // Sixteen turns.
 fn turns(a: [u64; 3], t: &[u32; 256]) -> [u64; 3]
-    requires { ⌜ now t ≡ columnList ⌝ }
+    requires { ⌜ now t ≡ mixingList ⌝ }
     ensures { λ r. ⌜ r ≡ iter 16 turned a ⌝ }
 {
     let mut x = a;
@@ -215,7 +199,7 @@ impl Mugi {
     // The state of a key: sixteen turns, and a0 of each in b.
     fn keyed(key: &[u8], t: &[u32; 256]) -> Mugi
         requires { ⌜ length (now key) ≡ 16 ⌝ }
-        requires { ⌜ now t ≡ columnList ⌝ }
+        requires { ⌜ now t ≡ mixingList ⌝ }
         ensures { λ r. ⌜ r ≡ keyedOf (now (key .entry)) ⌝ }
     {
         let mut a = spread(key);
@@ -232,7 +216,7 @@ impl Mugi {
     // The state with an IV: it is added to a, and sixteen turns follow.
     fn with_iv(self, iv: &[u8], t: &[u32; 256]) -> Mugi
         requires { ⌜ length (now iv) ≡ 16 ⌝ }
-        requires { ⌜ now t ≡ columnList ⌝ }
+        requires { ⌜ now t ≡ mixingList ⌝ }
         ensures { λ r. ⌜ r ≡ withIv self (now (iv .entry)) ⌝ }
     {
         let a = self.a;
@@ -244,7 +228,7 @@ impl Mugi {
 
     // What F gives for a1.
     fn first(self, t: &[u32; 256]) -> u64
-        requires { ⌜ now t ≡ columnList ⌝ }
+        requires { ⌜ now t ≡ mixingList ⌝ }
         ensures { λ r. ⌜ r ≡ firstOf self ⌝ }
     {
         let a = self.a;
@@ -254,7 +238,7 @@ impl Mugi {
 
     // What F gives for a2.
     fn second(self, t: &[u32; 256]) -> u64
-        requires { ⌜ now t ≡ columnList ⌝ }
+        requires { ⌜ now t ≡ mixingList ⌝ }
         ensures { λ r. ⌜ r ≡ secondOf self ⌝ }
     {
         let a = self.a;
@@ -278,7 +262,7 @@ impl Mugi {
 
     // The next state.
     pub fn step(self, t: &[u32; 256]) -> Mugi
-        requires { ⌜ now t ≡ columnList ⌝ }
+        requires { ⌜ now t ≡ mixingList ⌝ }
         ensures { λ r. ⌜ r ≡ next self ⌝ }
     {
         let x = self.first(t);
@@ -297,7 +281,7 @@ impl Mugi {
     // Four blocks of keystream and the state after them. The steps are written out in parts, since a step that is called from four places is not compiled
     // into the loop.
     pub fn four(self, t: &[u32; 256]) -> Four
-        requires { ⌜ now t ≡ columnList ⌝ }
+        requires { ⌜ now t ≡ mixingList ⌝ }
         ensures { λ r. ⌜ r ≡ fourOf self ⌝ }
     {
         let x0 = self.first(t);
@@ -320,7 +304,7 @@ impl Mugi {
     pub fn init(key: &[u8], iv: &[u8], t: &[u32; 256]) -> Mugi
         requires { ⌜ length (now key) ≡ 16 ⌝ }
         requires { ⌜ length (now iv) ≡ 16 ⌝ }
-        requires { ⌜ now t ≡ columnList ⌝ }
+        requires { ⌜ now t ≡ mixingList ⌝ }
         ensures { λ r. ⌜ r ≡ initOf (now (key .entry)) (now (iv .entry)) ⌝ }
     {
         let mut s = Mugi::keyed(key, t).with_iv(iv, t);

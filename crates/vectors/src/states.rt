@@ -284,7 +284,7 @@ pub fn mugi() {
     let mut iv = [0u8; 16];
     unhex(b"000102030405060708090a0b0c0d0e0f", &mut key);
     unhex(b"f0e0d0c0b0a090807060504030201000", &mut iv);
-    let t = field::tables::column();
+    let t = mugi::tables::mixing();
     let mut s = Mugi::init(&key, &iv, &t);
     let mut i: usize = 0;
     while i < 5 {

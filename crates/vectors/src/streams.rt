@@ -166,7 +166,7 @@ pub fn mugi_stream(k: &[u8], v: &[u8], units: usize) {
     let mut iv = [0u8; 16];
     unhex(k, &mut key);
     unhex(v, &mut iv);
-    let t = field::tables::column();
+    let t = mugi::tables::mixing();
     let mut s = Mugi::init(&key, &iv, &t);
     let mut i: usize = 0;
     while i < units {

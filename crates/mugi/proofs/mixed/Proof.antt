@@ -1,13 +1,18 @@
--- `mugi::mixed` meets its contract: M of the substituted bytes is T of the bytes in pairs, in the other order.
+-- `mugi::mixed` meets its contract: the four entries, turned, add up to M with its halves exchanged.
 -- Assumes nothing.
+use Rattle.words.proofs.Ranges.{byte-of}
 use Rattle.mugi.proofs.Blocks.{mixed-by}
 use borrow.Author.Needs.{needs}
 use Rattle.mugi.proofs.mixed.Statement.{statement}
 use Rattle.mugi.proofs.mixed.Tie as tie
 
 returns : tie.Need-returns
-returns c = rw (c .reversed .ensures, c .before .sub-word .ensures, c .before .before .paired .ensures) (mixed-by (c .before .before .before .args .w))
+returns c =
+    let k = c .before .before .before .before .before .before .before in
+    rw (c .rotl24 .ensures, c .before .rotl8 .ensures, c .before .before .rotl16 .ensures, k .pre) (mixed-by (k .args .w))
 
 pub mixed-spec : {M : Type 1} → statement M
 mixed-spec =
-    tie.close (tie.spec (λ c κs. search needs) (λ c κs. search needs) (λ c κs. search needs) returns)
+    tie.close (tie.spec (search needs) (search needs) (λ c. byte-of _) (search needs) (search needs) (λ c. byte-of _)
+    (search needs) (search needs) (λ c. byte-of _) (search needs) (search needs)
+    (λ c. byte-of _) (search needs) (search needs) (search needs) returns)
