@@ -1,5 +1,5 @@
 // What numbers 7, 8 and 255 ask: bytes that are all zero, an open line that is well formed, and a card whose lines are as a call leaves them.
-// A caller holds nothing.
+// A caller holds that the words of a state that is lent are thirty-eight, and else nothing.
 ghost use mathlib.Core.Path.{_≡_};
 ghost use mathlib.Core.Bool.{true};
 ghost use lib.Dec.{eqb};
