@@ -3,7 +3,7 @@
 pub mod tables;
 
 ghost use mathlib.Core.Path.{_≡_};
-ghost use Prim.Native.Nat.{_+_};
+ghost use Prim.Native.Nat.{_+_, _-_, _/_, _%_, _^_, _<_, _≤_};
 ghost use lib.ListN.{length};
 ghost use Rattle.words.specs.Word.{_∥_, low, high};
 ghost use Rattle.zuc.specs.Tables.{Lent};
@@ -87,23 +87,49 @@ fn next_r2(w1: u32, w2: u32, t1: &[u8; 256], t2: &[u8; 256]) -> u32
     substitute(linear2(cross(w2, w1)), t1, t2)
 }
 
-// V of 8.6.3 c).
-fn feedback(a15: u32, a13: u32, a10: u32, a4: u32, a0: u32) -> u32
-    ensures { λ r. ⌜ r ≡ weighed a15 a13 a10 a4 a0 ⌝ }
+// The sum of 8.6.3 c), whose remainder is V, with 2^31 - 1 added: the remainder is the same, and the sum is never 0.
+fn weigh(a15: u32, a13: u32, a10: u32, a4: u32, a0: u32) -> u64
+    ensures { λ r. ⌜ (r % (2 ^ 31 - 1) ≡ weighed a15 a13 a10 a4 a0) × ((1 ≤ r) × (r < 2 ^ 54)) ⌝ }
 {
-    let sum = 32768 * (a15 as u64)
+    32768 * (a15 as u64)
         + 131072 * (a13 as u64)
         + 2097152 * (a10 as u64)
         + 1048576 * (a4 as u64)
-        + 257 * (a0 as u64);
-    (sum % 2147483647) as u32
+        + 257 * (a0 as u64)
+        + 2147483647
 }
 
-// The feedback, with 2^31 - 1 in the place of 0.
-fn mend(x: u32) -> u32
-    ensures { λ r. ⌜ r ≡ mended x ⌝ }
+// The part above 31 bits, added to the low part.
+fn fold(x: u64) -> u64
+    ensures { λ r. ⌜ r ≡ x % 2 ^ 31 + x / 2 ^ 31 ⌝ }
 {
-    if x == 0 { 2147483647 } else { x }
+    x % 2147483648 + x / 2147483648
+}
+
+// The last fold. 31 bits hold what comes out, and a remainder of 0 comes out as 2^31 - 1.
+fn last_fold(x: u64) -> u32
+    requires { ⌜ (1 ≤ x) × (x < 2 ^ 32 - 1) ⌝ }
+    ensures { λ r. ⌜ r ≡ mended (x % (2 ^ 31 - 1)) ⌝ }
+{
+    fold(x) as u32
+}
+
+// The feedback of a sum: two folds are enough.
+fn feedback(sum: u64) -> u32
+    requires { ⌜ (1 ≤ sum) × (sum < 2 ^ 62) ⌝ }
+    ensures { λ r. ⌜ r ≡ mended (sum % (2 ^ 31 - 1)) ⌝ }
+{
+    let once = fold(sum);
+    last_fold(once)
+}
+
+// The feedback in INIT mode, where W without its lowest bit is added to the sum.
+fn feedback_init(sum: u64, w: u32) -> u32
+    requires { ⌜ (1 ≤ sum) × (sum < 2 ^ 54) ⌝ }
+    ensures { λ r. ⌜ r ≡ mended ((sum % (2 ^ 31 - 1) + w / 2) % (2 ^ 31 - 1)) ⌝ }
+{
+    let with_w = sum + (w / 2) as u64;
+    feedback(with_w)
 }
 
 // A cell of 8.6.2 a).
@@ -161,8 +187,7 @@ impl Zuc {
     {
         let a = self.a;
         let w = self.word();
-        let v = feedback(a[15], a[13], a[10], a[4], a[0]);
-        let x = mend(((v as u64 + (w / 2) as u64) % 2147483647) as u32);
+        let x = feedback_init(weigh(a[15], a[13], a[10], a[4], a[0]), w);
         self.clock(x, t1, t2)
     }
 
@@ -172,7 +197,7 @@ impl Zuc {
         ensures { λ r. ⌜ r ≡ next self ⌝ }
     {
         let a = self.a;
-        let x = mend(feedback(a[15], a[13], a[10], a[4], a[0]));
+        let x = feedback(weigh(a[15], a[13], a[10], a[4], a[0]));
         self.clock(x, t1, t2)
     }
 

@@ -1,4 +1,4 @@
--- `zuc::Zuc::step` meets its contract: the state is clocked with the mended feedback.
+-- `zuc::Zuc::step` meets its contract: the state is clocked with the feedback of the sum.
 -- Assumes nothing.
 use Rattle.zuc.specs.Cipher.{next, fed}
 use borrow.Author.Needs.{needs}
@@ -7,7 +7,7 @@ use Rattle.zuc.proofs.Zuc.step.Tie as tie
 
 returns : tie.Need-returns
 unfolding next fed
-returns c = rw (c .clock .ensures, c .before .mend .ensures, c .before .before .feedback .ensures)
+returns c = rw (c .clock .ensures, c .before .feedback .ensures, c .before .before .weigh .ensures .0)
 
 pub step-spec : {M : Type 1} → statement M
 step-spec =
