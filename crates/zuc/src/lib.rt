@@ -5,7 +5,7 @@ pub mod tables;
 ghost use mathlib.Core.Path.{_≡_};
 ghost use Prim.Native.Nat.{_+_, _-_, _/_, _%_, _^_, _<_, _≤_};
 ghost use lib.ListN.{length};
-ghost use Rattle.words.specs.Word.{_∥_, low, high};
+ghost use Rattle.words.specs.Word.{_∥_, word, low, high};
 ghost use Rattle.zuc.specs.Tables.{Lent};
 ghost use Rattle.zuc.specs.Cipher.{l1, l2, ss, cellHigh, w as wordW, weighed, mended, nextR1, nextR2, clocked, next, nextInit, strm, cellOf, loaded, init as initOf};
 
@@ -38,6 +38,13 @@ fn linear2(x: u32) -> u32
         ^ ((x << 30) + (x >> 2))
 }
 
+// The word of four bytes, a the most significant. Its halves do not wait for each other.
+fn join(a: u8, b: u8, c: u8, d: u8) -> u32
+    ensures { λ r. ⌜ r ≡ word a b c d ⌝ }
+{
+    (words::wide(a) * 256 + words::wide(b)) * 65536 + (words::wide(c) * 256 + words::wide(d))
+}
+
 // SS of 8.6.5.
 fn substitute(x: u32, t1: &[u8; 256], t2: &[u8; 256]) -> u32
     requires { ⌜ Lent (now t1) (now t2) ⌝ }
@@ -47,7 +54,7 @@ fn substitute(x: u32, t1: &[u8; 256], t2: &[u8; 256]) -> u32
     let y2 = words::entry(t2, (x / 65536 % 256) as u8);
     let y1 = words::entry(t1, (x / 256 % 256) as u8);
     let y0 = words::entry(t2, (x % 256) as u8);
-    words::join(y3, y2, y1, y0)
+    join(y3, y2, y1, y0)
 }
 
 // The leftmost 16 bits of cell a, then the rightmost 16 of cell b.
