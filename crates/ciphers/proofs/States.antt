@@ -59,7 +59,7 @@ zero-words : (n : ℕ) → All Word (replicate n 0)
 zero-words zero = none
 zero-words (suc n) = more (lit< tt) (zero-words n)
 
-zeros-of : (l : List ℕ) → allZero l ≡ true → l ≡ replicate (length l) 0
+pub zeros-of : (l : List ℕ) → allZero l ≡ true → l ≡ replicate (length l) 0
 zeros-of [] h = refl
 zeros-of (x ∷ l) h = cons (eqb-true x 0 (both-left (eqb x 0) (allZero l) h)) (zeros-of l (both-right (eqb x 0) (allZero l) h))
 

@@ -19,7 +19,8 @@ use Rattle.words.specs.Tests.{both, pick}
 use Rattle.words.proofs.Registers.{listed, cons}
 use Rattle.keystream.proofs.Parts.{put-tail, tail-part, tail-length}
 use Rattle.buffer.proofs.Fronts.{Front, front-more}
-use Rattle.ciphers.specs.Table.{allOf, isZero, allZero, isCipher}
+use Rattle.ciphers.specs.Table.{allZero, isCipher}
+use Rattle.ciphers.proofs.States.{zeros-of}
 use Rattle.ciphers.proofs.Tests.{both-left, both-right, both-true}
 use Rattle.line.specs.declared.Line.{Line}
 use Rattle.machine.specs.Machine.{Call, lineOk, allOk, lineCount, idleOk, openOk, idleLine}
@@ -80,14 +81,10 @@ line-held ws n h k =
     ∙ sym (listed 42 (take 42 ws) (length-take-le 42 ws n))
 
 -- a line of zeros is idle
-zeros-are : (l : List ℕ) → allZero l ≡ true → l ≡ replicate (length l) 0
-zeros-are [] h = refl
-zeros-are (x ∷ l) h = cons (eqb-true x 0 (both-left (isZero x) (allOf isZero l) h)) (zeros-are l (both-right (isZero x) (allOf isZero l) h))
-
 pub zero-line : (ws : List ℕ) → 42 ≤ length ws → allZero (take 42 ws) ≡ true → (lineOk (lineIn ws) ≡ true) × (lineWords (lineIn ws) ≡ take 42 ws)
 unfolding lineIn lineWords lineOk idleOk
 zero-line ws n h =
-    let z : take 42 ws ≡ replicate 42 0 = zeros-are (take 42 ws) h ∙ ap (λ (k : ℕ). replicate k 0) (length-take-le 42 ws n) in
+    let z : take 42 ws ≡ replicate 42 0 = zeros-of (take 42 ws) h ∙ ap (λ (k : ℕ). replicate k 0) (length-take-le 42 ws n) in
     let e : ws ≡ replicate 42 0 ++ drop 42 ws = sym (take-append-drop 42 ws) ∙ ap (λ (x : List ℕ). x ++ drop 42 ws) z in (
       ap (λ (x : List ℕ). lineOk (lineIn x)) e,
       ap (λ (x : List ℕ). lineWords (lineIn x)) e ∙ sym z,
