@@ -1,51 +1,74 @@
--- Demand 3 of the program: every run from a fresh card is the machine's, and a line's stream is one stream. Each answer is that of the card's step, which on every card that the calls before
--- it left is the machine's.
+-- Demand 3 of the program: every run from a fresh card is the machine's, and a line's stream is one stream. Each answer is that of the card's step.
 -- Assumes nothing.
 use Prim.Native.Nat.{ℕ}
-use mathlib.Core.Path.{_≡_, refl, ap, ap₂, sym, _∙_}
+use mathlib.Core.Path.{_≡_, sym, subst}
 use mathlib.Core.List.{List, [], _∷_}
-use Rattle.machine.specs.Machine.{Machine, Seen, Call, seen, shows, step, cardStep, freshMachine}
-use Rattle.machine.specs.Logs.{Made, madeOf, machineRun, callsOf}
-use Rattle.machine.specs.OneStream.{AllBytes, OneStream, Counted}
-use Rattle.machine.proofs.Simulation.{AllGood, step-same, step-good, fresh-good}
-use Rattle.machine.proofs.OneStream.{fresh-seen, machine-one-stream, machine-counted}
-use Rattle.answer.specs.declared.Card.{Card}
-use Rattle.answer.specs.declared.Answer.{Answer}
-use Rattle.answer.specs.Answer.{seenOf, answerOf, outOf, Answered, fresh}
-use Rattle.card.specs.Ran.{recorded, Ran, none, call}
+use Rattle.machine.specs.Machine.{Machine, Call, Seen, step, cardStep, freshMachine, freshCard}
+use Rattle.machine.specs.Logs.{Made, madeOf, callsOf}
+use Rattle.machine.specs.OneStream.{BytesIn, OneStream, Counted}
+use Rattle.machine.specs.Steps.{Steps, none as no-steps, step as one-step}
+use Rattle.machine.proofs.Steps.{steps-one-stream, steps-counted}
+use Rattle.card_layout.proofs.Cards.{fresh-words}
+use Rattle.card_outcome.specs.Outcomes.{outcomeOf, Code}
+use Rattle.card_outcome.specs.Leaves.{outOf, Untouched}
+use Rattle.card_outcome.proofs.Refusals.{refused-whole as words-refused-whole, numbered as words-numbered}
+use Rattle.card_outcome.proofs.Every.{Stored, every-call, stored-next, runOf, calls-of, fresh-stored}
+use Rattle.card.specs.declared.Card.{Card}
+use Rattle.card.specs.declared.Answer.{Answer}
+use Rattle.card.specs.Ran.{seenOf, fresh, answerOf, recorded, Promised, Ran, none, call}
+use Rattle.card.proofs.Calls.{promised, called}
 
 -- what is recorded of a call is what the card's step shows
-recorded-is : (c : Card) (a : Call) (r : Answer) (o : List ℕ) → Answered c a r o → recorded a r o ≡ madeOf a (cardStep (seenOf c) a)
-unfolding answerOf outOf
-recorded-is c a r o h = ap₂ (λ (x : Answer) (y : List ℕ). recorded a x y) (h .answer-is) (h .out-is)
+recorded-is : (c : Card) (a : Call) (r : Answer) (o : List ℕ) → Promised c a r o → recorded a r o ≡ madeOf a (cardStep (seenOf c) a)
+unfolding outcomeOf outOf
+recorded-is c a r o h =
+    let k = called c a r o h in
+    λ j. record {
+      call = a;
+      code = k .outcome-is j .code;
+      used-command = k .outcome-is j .«used_command»;
+      used-data = k .outcome-is j .«used_data»;
+      written = k .outcome-is j .written;
+      out = k .out-is j;
+      card = k .card-is j;
+    }
 
-ran-is : {c : Card} {xs : List Made} → Ran c xs → AllBytes xs → (m : Machine) → AllGood (m .lines) → seenOf c ≡ seen m → xs ≡ machineRun m (callsOf xs)
-ran-is none b m g e = refl
-ran-is (call {c = c} {a = a} {r = r} {o = o} {xs = xs} h t) b m g e =
-    let s : recorded a r o ≡ madeOf a (shows (step m a)) =
-    recorded-is c a r o h ∙ ap (λ (x : Seen). madeOf a (cardStep x a)) e ∙ ap (madeOf a) (step-same m g a (b .0)) in
-    ap₂ _∷_ s (ran-is t (b .1) (step m a .machine) (step-good m g a (b .0)) (ap (λ (x : Made). x .card) s))
+ran-steps : {c : Card} {xs : List Made} → Ran c xs → Steps (seenOf c) xs
+ran-steps none = no-steps
+ran-steps (call {c = c} {a = a} {r = r} {o = o} {xs = xs} h t) =
+    subst (λ (x : Made). Steps (seenOf c) (x ∷ xs)) (sym (recorded-is c a r o h))
+    (one-step (h .bytes) (subst (λ (s : Seen). Steps s xs) (h .seen-is) (ran-steps t)))
 
--- Every list of calls whose buffers hold bytes, refused ones among them, that the program runs from a fresh card.
-pub one-stream : (xs : List Made) → Ran fresh xs → AllBytes xs → OneStream xs
-one-stream xs h b = machine-one-stream xs (ran-is h b freshMachine fresh-good (sym fresh-seen)) b
+from-fresh : {xs : List Made} → Ran fresh xs → Steps freshCard xs
+from-fresh {xs} h = subst (λ (s : Seen). Steps s xs) fresh-words (ran-steps h)
+
+-- Every list of calls, refused ones among them, that the program runs from a fresh card.
+pub one-stream : (xs : List Made) → Ran fresh xs → OneStream xs
+one-stream xs h = steps-one-stream xs (from-fresh h)
 
 -- In such a list the crypts of a line take positions one after the other, none past 2^36, and 255 is never said.
-pub counted : (xs : List Made) → Ran fresh xs → AllBytes xs → Counted xs
-counted xs h b = machine-counted xs (ran-is h b freshMachine fresh-good (sym fresh-seen)) b
+pub counted : (xs : List Made) → Ran fresh xs → Counted xs
+counted xs h = steps-counted xs (from-fresh h)
 
--- Every list of calls is run.
-abbrev runOf : Card → List Call → List Made
-runOf c [] = []
-runOf c (a ∷ more) = recorded a (answerOf (cardStep (seenOf c) a)) (outOf (cardStep (seenOf c) a) (a .out)) ∷ runOf (answerOf (cardStep (seenOf c) a) .card) more
+module _ (c : Card) (a : Call) (r : Answer) (o : List ℕ) (h : Promised c a r o) where
+  -- A refusal returns the card and out unchanged and three zeros, whatever card was handed in.
+  pub refused-whole : (r .outcome .code ≡ 0 → ⊥) → Untouched (c .words) (a .out) (r .outcome) (r .card .words) o
+  refused-whole = words-refused-whole (c .words) a (called c a r o h)
 
-ran-of : (calls : List Call) (c : Card) → Ran c (runOf c calls)
-ran-of [] c = none
-ran-of (a ∷ more) c = call (record { answer-is = refl; out-is = refl }) (ran-of more _)
+  -- Every code is 0, one of document 01's numbers, or 255, whatever card was handed in.
+  pub numbered : Code (r .outcome .code)
+  numbered = words-numbered (c .words) a (called c a r o h)
 
-calls-of : (calls : List Call) (c : Card) → callsOf (runOf c calls) ≡ calls
-calls-of [] c = refl
-calls-of (a ∷ more) c = ap (_∷_ a) (calls-of more _)
+-- ---- every list of calls is run
 
-pub every-list : (calls : List Call) → (xs : List Made) × (Ran fresh xs × (callsOf xs ≡ calls))
-every-list calls = (runOf fresh calls, (ran-of calls fresh, calls-of calls fresh))
+ran-of : (calls : List Call) → BytesIn calls → (c : Card) (m : Machine) → Stored m (c .words) → Ran c (runOf (c .words) calls)
+unfolding answerOf
+ran-of [] b c m t = none
+ran-of (a ∷ more) b c m t =
+    let r = answerOf c a in
+    let o = outOf (cardStep (seenOf c) a) (a .out) in
+    let h : Promised c a r o = promised c a _ _ o (every-call t a (b .0)) (b .0) in
+    subst (λ (x : Made). Ran c (x ∷ runOf (r .card .words) more)) (recorded-is c a r o h) (call h (ran-of more (b .1) (r .card) (step m a .machine) (stored-next t a (b .0))))
+
+pub every-list : (calls : List Call) → BytesIn calls → (xs : List Made) × (Ran fresh xs × (callsOf xs ≡ calls))
+every-list calls b = (runOf (fresh .words) calls, (ran-of calls b fresh freshMachine fresh-stored, calls-of (fresh .words) calls))

@@ -11,10 +11,8 @@ use Rattle.snow2.specs.declared.Snow2.{Snow2}
 use Rattle.kcipher2.specs.declared.Kcipher2.{Kcipher2}
 use Rattle.mugi.specs.declared.Mugi.{Mugi}
 use Rattle.mugi.specs.Cipher.{block, left, right}
-
 -- how many words a state has
-abbrev pub stateWords : ℕ
-stateWords = 38
+pub use Rattle.card_sizes.specs.Sizes.{stateWords}
 
 unfoldable pub zucWords : Zuc → List ℕ
 zucWords s = s .a ++ (s .r1 ∷ s .r2 ∷ replicate 20 0)

@@ -6,6 +6,7 @@ use Prim.Native.Nat.{ℕ, _+_, _*_}
 use lib.Dec.{ltb, eqb}
 use lib.ListN.{length, getD}
 use Rattle.words.specs.Tests.{pick}
+use Rattle.card_sizes.specs.Sizes.{trayLength, ownLength, cryptLength, parkLength, resumeLength, closeLength}
 use Rattle.command.specs.declared.Cipher.{Cipher}
 use Rattle.command.specs.declared.Cipher.the-variants.{Zuc, Rabbit, Snow128, Snow256, Kcipher2, Mugi}
 use Rattle.command.specs.declared.CipherRead.{CipherRead}
@@ -33,7 +34,8 @@ numberOf Mugi = 6
 -- the length of a command by its first byte, and 0 where that is not 01 to 06
 unfoldable pub lengthOf : ℕ → ℕ
 lengthOf k =
-    pick (eqb k 1) 20 (pick (eqb k 2) 51 (pick (eqb k 3) 4 (pick (eqb k 4) 2 (pick (eqb k 5) 163 (pick (eqb k 6) 2 0)))))
+    pick (eqb k 1) trayLength
+    (pick (eqb k 2) ownLength (pick (eqb k 3) cryptLength (pick (eqb k 4) parkLength (pick (eqb k 5) resumeLength (pick (eqb k 6) closeLength 0)))))
 
 -- number 4: a cipher that is not 1 to 6
 abbrev pub withCipher : CipherRead → (Cipher → Decoded) → Decoded

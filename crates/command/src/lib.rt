@@ -3,7 +3,13 @@
 ghost use mathlib.Core.Path.{_≡_};
 ghost use Prim.Native.Nat.{_≤_};
 ghost use lib.ListN.{length};
-ghost use Rattle.command.specs.Decode.{readOf, lengthOf, openOf, cryptOf, commandOf, decodeOf, lineOf, refusalOf};
+ghost use Rattle.command.specs.Decode.{readOf, lengthOf, openOf, cryptOf, commandOf, decodeOf, refusalOf};
+use card_sizes::CLOSE;
+use card_sizes::CRYPT;
+use card_sizes::OWN;
+use card_sizes::PARK;
+use card_sizes::RESUME;
+use card_sizes::TRAY;
 
 pub enum Cipher {
     Zuc,
@@ -33,19 +39,6 @@ pub enum Decoded {
     Run(Command),
     Refused(u8),
 }
-
-// The lengths of the commands.
-pub const TRAY: usize = 20;
-
-pub const OWN: usize = 51;
-
-pub const CRYPT: usize = 4;
-
-pub const PARK: usize = 2;
-
-pub const RESUME: usize = 163;
-
-pub const CLOSE: usize = 2;
 
 fn wide(x: u8) -> usize
     ensures { λ r. ⌜ (r ≡ x) × (r ≤ 255) ⌝ }
@@ -147,24 +140,6 @@ pub fn decode(command: &[u8]) -> Decoded
         return Decoded::Refused(1);
     }
     read_command(kind, command)
-}
-
-// The line that a command names.
-pub fn line_of(k: Command) -> u8
-    ensures { λ r. ⌜ r ≡ lineOf k ⌝ }
-{
-    match k {
-        Command::Tray {
-            line,
-            cipher: _,
-            key: _,
-        } => line,
-        Command::Own { line, cipher: _ } => line,
-        Command::Crypt { line, count: _ } => line,
-        Command::Park { line } => line,
-        Command::Resume { line } => line,
-        Command::Close { line } => line,
-    }
 }
 
 // The number of a command that is not read.

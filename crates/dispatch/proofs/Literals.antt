@@ -7,7 +7,8 @@ use Prim.Native.Nat.{ℕ, zero, suc, _+_, _*_, _/_, _^_, _<_}
 use native.Mathlib.Omega.{arith}
 use lib.ListN.{length, getD, take, drop, set, replicate}
 use lib.Seq.{drop-length}
-use Rattle.words.specs.Lists.{tab, All, none, more, Word}
+use Rattle.words.specs.Lists.{tab, Word}
+use Rattle.words.proofs.Ranges.{all-known}
 use Rattle.words.proofs.Registers.{listed, fill}
 use Rattle.zuc.specs.declared.Zuc.{Zuc}
 use Rattle.rabbit.specs.declared.Rabbit.{Rabbit}
@@ -18,11 +19,6 @@ use Rattle.mugi.specs.declared.Mugi.{Mugi}
 use Rattle.ciphers.specs.Table.{Cipher}
 use Rattle.ciphers.specs.Fit.{Fit}
 use Rattle.ciphers.specs.States.{zucWords, zucState, rabbitWords, rabbitState, snow2Words, snow2State, kcipher2Words, kcipher2State, halves, blockIn, mugiWords, mugiState}
-
--- what is so at every place is so of all
-pub all-known : (P : ℕ → Type 0) (l : List ℕ) → ((i : ℕ) → P (getD l i 0)) → All P l
-all-known P [] h = none
-all-known P (x ∷ l) h = more (h 0) (all-known P l (λ i. h (suc i)))
 
 -- what a line's words are, as they are lent
 pub lent-fit : (w : List ℕ) {d : Cipher} → ((i : ℕ) → Word (getD w i 0)) → length w ≡ 38 → d .admits w ≡ true → Fit d w

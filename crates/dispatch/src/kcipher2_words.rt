@@ -7,11 +7,12 @@ ghost use lib.ListN.{length, drop};
 ghost use Rattle.keystream.specs.Stream.{stateAt, byteAt, xorFrom};
 ghost use Rattle.ciphers.specs.States.{stateWords, kcipher2Words, kcipher2State};
 ghost use Rattle.ciphers.specs.Table.{kcipher2};
+use crate::lent::state_of;
+use card_sizes::STATE;
 use kcipher2::Kcipher2;
-use line::state_of;
 
 // The state that a line's words hold.
-fn state(w: [u32; 38]) -> Kcipher2
+fn state(w: [u32; STATE]) -> Kcipher2
     ensures { λ r. ⌜ r ≡ kcipher2State w ⌝ }
 {
     let a = [w[0], w[1], w[2], w[3], w[4]];
@@ -39,7 +40,7 @@ fn state(w: [u32; 38]) -> Kcipher2
 }
 
 // The words of a state, zeros after them.
-fn words(s: Kcipher2) -> [u32; 38]
+fn words(s: Kcipher2) -> [u32; STATE]
     ensures { λ r. ⌜ r ≡ kcipher2Words s ⌝ }
 {
     let a = s.a;
@@ -87,7 +88,7 @@ fn words(s: Kcipher2) -> [u32; 38]
 }
 
 // S(0) of key and IV.
-pub fn open(key: &[u8], iv: &[u8]) -> [u32; 38]
+pub fn open(key: &[u8], iv: &[u8]) -> [u32; STATE]
     requires { ⌜ length (now key) ≡ 16 ⌝ }
     requires { ⌜ length (now iv) ≡ 16 ⌝ }
     ensures { λ r. ⌜ r ≡ kcipher2 .init (now (key .entry)) (now (iv .entry)) ⌝ }
@@ -102,7 +103,7 @@ pub fn open(key: &[u8], iv: &[u8]) -> [u32; 38]
 
 // The text goes to the start of out, XORed with the keystream from byte skip of the unit of the words' state on; w then holds the state of the unit in which
 // the next byte lies.
-pub fn crypt(w: &mut [u32], skip: usize, text: &[u8], out: &mut [u8])
+pub fn xor_text(w: &mut [u32], skip: usize, text: &[u8], out: &mut [u8])
     requires { ⌜ (length (now w) ≡ stateWords) × (kcipher2 .admits (now w) ≡ true) ⌝ }
     requires { ⌜ (skip < 8) × (length (now text) ≤ length (now out)) ⌝ }
     ensures { λ _. ⌜ (now (w .exit) ≡ stateAt (kcipher2 .gen) (now (w .entry)) 0 ((skip + length (now (text .entry))) / 8)) × (now (out .exit) ≡ xorFrom (byteAt (kcipher2 .gen) (now (w .entry)) 0) skip (now (text .entry)) ++ drop (length (now (text .entry))) (now (out .entry))) ⌝ }

@@ -1,6 +1,7 @@
 // What a line does by its cipher: S(0) of key and IV, and a crypt from a byte of a unit on, each over the line's words.
 // A caller holds the lengths of key and IV, a state that the cipher admits, a place within a unit, and a buffer as long as the text.
 mod kcipher2_words;
+mod lent;
 mod mugi_words;
 mod rabbit_words;
 mod snow2_words;
@@ -12,13 +13,14 @@ ghost use mathlib.Core.List.{_++_};
 ghost use Prim.Native.Nat.{_+_, _/_, _<_, _≤_};
 ghost use lib.ListN.{length, drop};
 ghost use Rattle.keystream.specs.Stream.{stateAt, byteAt, xorFrom};
-ghost use Rattle.ciphers.specs.States.{stateWords};
+ghost use Rattle.card_sizes.specs.Sizes.{stateWords};
 ghost use Rattle.ciphers.specs.Table.{cipherAt};
 ghost use Rattle.command.specs.Decode.{numberOf};
+use card_sizes::STATE;
 use command::Cipher;
 
 // S(0) of key and IV.
-pub fn open(c: Cipher, key: &[u8], iv: &[u8]) -> [u32; 38]
+pub fn open(c: Cipher, key: &[u8], iv: &[u8]) -> [u32; STATE]
     requires { ⌜ length (now key) ≡ cipherAt (numberOf c) .key ⌝ }
     requires { ⌜ length (now iv) ≡ cipherAt (numberOf c) .iv ⌝ }
     ensures { λ r. ⌜ r ≡ cipherAt (numberOf c) .init (now (key .entry)) (now (iv .entry)) ⌝ }
@@ -41,11 +43,11 @@ pub fn crypt(c: u8, w: &mut [u32], skip: usize, text: &[u8], out: &mut [u8])
     ensures { λ _. ⌜ (now (w .exit) ≡ stateAt (cipherAt c .gen) (now (w .entry)) 0 ((skip + length (now (text .entry))) / cipherAt c .gen .unit)) × (now (out .exit) ≡ xorFrom (byteAt (cipherAt c .gen) (now (w .entry)) 0) skip (now (text .entry)) ++ drop (length (now (text .entry))) (now (out .entry))) ⌝ }
 {
     match c {
-        1 => zuc_words::crypt(w, skip, text, out),
-        2 => rabbit_words::crypt(w, skip, text, out),
-        3 => snow2_words::crypt(w, skip, text, out),
-        4 => snow2_words::crypt(w, skip, text, out),
-        5 => kcipher2_words::crypt(w, skip, text, out),
-        _ => mugi_words::crypt(w, skip, text, out),
+        1 => zuc_words::xor_text(w, skip, text, out),
+        2 => rabbit_words::xor_text(w, skip, text, out),
+        3 => snow2_words::xor_text(w, skip, text, out),
+        4 => snow2_words::xor_text(w, skip, text, out),
+        5 => kcipher2_words::xor_text(w, skip, text, out),
+        _ => mugi_words::xor_text(w, skip, text, out),
     }
 }

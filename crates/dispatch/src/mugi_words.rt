@@ -8,14 +8,15 @@ ghost use Rattle.words.specs.Lists.{tab};
 ghost use Rattle.keystream.specs.Stream.{stateAt, byteAt, xorFrom};
 ghost use Rattle.ciphers.specs.States.{stateWords, halves, blockIn, mugiWords, mugiState};
 ghost use Rattle.ciphers.specs.Table.{mugi};
-use line::state_of;
+use crate::lent::state_of;
+use card_sizes::STATE;
 use mugi::Mugi;
 use mugi::join;
 use mugi::left;
 use mugi::right;
 
 // The blocks that a line's words hold.
-fn blocks_in(w: [u32; 38]) -> [u64; 19]
+fn blocks_in(w: [u32; STATE]) -> [u64; 19]
     ensures { λ r. ⌜ r ≡ tab 19 (blockIn w) ⌝ }
 {
     let mut x = [0u64; 19];
@@ -30,10 +31,10 @@ fn blocks_in(w: [u32; 38]) -> [u64; 19]
 }
 
 // The words of blocks.
-fn words_of(x: [u64; 19]) -> [u32; 38]
+fn words_of(x: [u64; 19]) -> [u32; STATE]
     ensures { λ r. ⌜ r ≡ halves x ⌝ }
 {
-    let mut w = [0u32; 38];
+    let mut w = [0u32; STATE];
     let mut i: usize = 0;
     while i < 19 {
         let z = x[i];
@@ -45,7 +46,7 @@ fn words_of(x: [u64; 19]) -> [u32; 38]
 }
 
 // The state that a line's words hold.
-fn state(w: [u32; 38]) -> Mugi
+fn state(w: [u32; STATE]) -> Mugi
     ensures { λ r. ⌜ r ≡ mugiState w ⌝ }
 {
     let x = blocks_in(w);
@@ -72,7 +73,7 @@ fn state(w: [u32; 38]) -> Mugi
 }
 
 // The words of a state.
-fn words(s: Mugi) -> [u32; 38]
+fn words(s: Mugi) -> [u32; STATE]
     ensures { λ r. ⌜ r ≡ mugiWords s ⌝ }
 {
     let a = s.a;
@@ -101,7 +102,7 @@ fn words(s: Mugi) -> [u32; 38]
 }
 
 // S(0) of key and IV.
-pub fn open(key: &[u8], iv: &[u8]) -> [u32; 38]
+pub fn open(key: &[u8], iv: &[u8]) -> [u32; STATE]
     requires { ⌜ length (now key) ≡ 16 ⌝ }
     requires { ⌜ length (now iv) ≡ 16 ⌝ }
     ensures { λ r. ⌜ r ≡ mugi .init (now (key .entry)) (now (iv .entry)) ⌝ }
@@ -112,7 +113,7 @@ pub fn open(key: &[u8], iv: &[u8]) -> [u32; 38]
 
 // The text goes to the start of out, XORed with the keystream from byte skip of the unit of the words' state on; w then holds the state of the unit in which
 // the next byte lies.
-pub fn crypt(w: &mut [u32], skip: usize, text: &[u8], out: &mut [u8])
+pub fn xor_text(w: &mut [u32], skip: usize, text: &[u8], out: &mut [u8])
     requires { ⌜ (length (now w) ≡ stateWords) × (mugi .admits (now w) ≡ true) ⌝ }
     requires { ⌜ (skip < 8) × (length (now text) ≤ length (now out)) ⌝ }
     ensures { λ _. ⌜ (now (w .exit) ≡ stateAt (mugi .gen) (now (w .entry)) 0 ((skip + length (now (text .entry))) / 8)) × (now (out .exit) ≡ xorFrom (byteAt (mugi .gen) (now (w .entry)) 0) skip (now (text .entry)) ++ drop (length (now (text .entry))) (now (out .entry))) ⌝ }

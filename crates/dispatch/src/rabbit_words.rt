@@ -7,11 +7,12 @@ ghost use lib.ListN.{length, drop};
 ghost use Rattle.keystream.specs.Stream.{stateAt, byteAt, xorFrom};
 ghost use Rattle.ciphers.specs.States.{stateWords, rabbitWords, rabbitState};
 ghost use Rattle.ciphers.specs.Table.{rabbit};
-use line::state_of;
+use crate::lent::state_of;
+use card_sizes::STATE;
 use rabbit::Rabbit;
 
 // The state that a line's words hold.
-fn state(w: [u32; 38]) -> Rabbit
+fn state(w: [u32; STATE]) -> Rabbit
     ensures { λ r. ⌜ r ≡ rabbitState w ⌝ }
 {
     let x = [w[0], w[1], w[2], w[3], w[4], w[5], w[6], w[7]];
@@ -24,7 +25,7 @@ fn state(w: [u32; 38]) -> Rabbit
 }
 
 // The words of a state whose carry fits a byte, zeros after them.
-fn words(s: Rabbit) -> [u32; 38]
+fn words(s: Rabbit) -> [u32; STATE]
     requires { ⌜ s .b ≤ 1 ⌝ }
     ensures { λ r. ⌜ r ≡ rabbitWords s ⌝ }
 {
@@ -74,7 +75,7 @@ fn words(s: Rabbit) -> [u32; 38]
 }
 
 // S(0) of key and IV.
-pub fn open(key: &[u8], iv: &[u8]) -> [u32; 38]
+pub fn open(key: &[u8], iv: &[u8]) -> [u32; STATE]
     requires { ⌜ length (now key) ≡ 16 ⌝ }
     requires { ⌜ length (now iv) ≡ 8 ⌝ }
     ensures { λ r. ⌜ r ≡ rabbit .init (now (key .entry)) (now (iv .entry)) ⌝ }
@@ -84,7 +85,7 @@ pub fn open(key: &[u8], iv: &[u8]) -> [u32; 38]
 
 // The text goes to the start of out, XORed with the keystream from byte skip of the unit of the words' state on; w then holds the state of the unit in which
 // the next byte lies.
-pub fn crypt(w: &mut [u32], skip: usize, text: &[u8], out: &mut [u8])
+pub fn xor_text(w: &mut [u32], skip: usize, text: &[u8], out: &mut [u8])
     requires { ⌜ (length (now w) ≡ stateWords) × (rabbit .admits (now w) ≡ true) ⌝ }
     requires { ⌜ (skip < 16) × (length (now text) ≤ length (now out)) ⌝ }
     ensures { λ _. ⌜ (now (w .exit) ≡ stateAt (rabbit .gen) (now (w .entry)) 0 ((skip + length (now (text .entry))) / 16)) × (now (out .exit) ≡ xorFrom (byteAt (rabbit .gen) (now (w .entry)) 0) skip (now (text .entry)) ++ drop (length (now (text .entry))) (now (out .entry))) ⌝ }

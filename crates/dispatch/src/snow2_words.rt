@@ -7,11 +7,12 @@ ghost use lib.ListN.{length, drop};
 ghost use Rattle.keystream.specs.Stream.{stateAt, byteAt, xorFrom};
 ghost use Rattle.ciphers.specs.States.{stateWords, snow2Words, snow2State};
 ghost use Rattle.ciphers.specs.Table.{snow128, snow256};
-use line::state_of;
+use crate::lent::state_of;
+use card_sizes::STATE;
 use snow2::Snow2;
 
 // The state that a line's words hold.
-fn state(w: [u32; 38]) -> Snow2
+fn state(w: [u32; STATE]) -> Snow2
     ensures { λ r. ⌜ r ≡ snow2State w ⌝ }
 {
     let s = [
@@ -40,7 +41,7 @@ fn state(w: [u32; 38]) -> Snow2
 }
 
 // The words of a state, zeros after them.
-fn words(st: Snow2) -> [u32; 38]
+fn words(st: Snow2) -> [u32; STATE]
     ensures { λ r. ⌜ r ≡ snow2Words st ⌝ }
 {
     let s = st.s;
@@ -87,7 +88,7 @@ fn words(st: Snow2) -> [u32; 38]
 }
 
 // S(0) of a key of 16 bytes and an IV.
-pub fn open128(key: &[u8], iv: &[u8]) -> [u32; 38]
+pub fn open128(key: &[u8], iv: &[u8]) -> [u32; STATE]
     requires { ⌜ length (now key) ≡ 16 ⌝ }
     requires { ⌜ length (now iv) ≡ 16 ⌝ }
     ensures { λ r. ⌜ r ≡ snow128 .init (now (key .entry)) (now (iv .entry)) ⌝ }
@@ -99,7 +100,7 @@ pub fn open128(key: &[u8], iv: &[u8]) -> [u32; 38]
 }
 
 // S(0) of a key of 32 bytes and an IV.
-pub fn open256(key: &[u8], iv: &[u8]) -> [u32; 38]
+pub fn open256(key: &[u8], iv: &[u8]) -> [u32; STATE]
     requires { ⌜ length (now key) ≡ 32 ⌝ }
     requires { ⌜ length (now iv) ≡ 16 ⌝ }
     ensures { λ r. ⌜ r ≡ snow256 .init (now (key .entry)) (now (iv .entry)) ⌝ }
@@ -112,7 +113,7 @@ pub fn open256(key: &[u8], iv: &[u8]) -> [u32; 38]
 
 // The text goes to the start of out, XORed with the keystream from byte skip of the unit of the words' state on; w then holds the state of the unit in which
 // the next byte lies.
-pub fn crypt(w: &mut [u32], skip: usize, text: &[u8], out: &mut [u8])
+pub fn xor_text(w: &mut [u32], skip: usize, text: &[u8], out: &mut [u8])
     requires { ⌜ (length (now w) ≡ stateWords) × (snow128 .admits (now w) ≡ true) ⌝ }
     requires { ⌜ (skip < 4) × (length (now text) ≤ length (now out)) ⌝ }
     ensures { λ _. ⌜ (now (w .exit) ≡ stateAt (snow128 .gen) (now (w .entry)) 0 ((skip + length (now (text .entry))) / 4)) × (now (out .exit) ≡ xorFrom (byteAt (snow128 .gen) (now (w .entry)) 0) skip (now (text .entry)) ++ drop (length (now (text .entry))) (now (out .entry))) ⌝ }

@@ -7,11 +7,12 @@ ghost use lib.ListN.{length, drop};
 ghost use Rattle.keystream.specs.Stream.{stateAt, byteAt, xorFrom};
 ghost use Rattle.ciphers.specs.States.{stateWords, zucWords, zucState};
 ghost use Rattle.ciphers.specs.Table.{zuc};
-use line::state_of;
+use crate::lent::state_of;
+use card_sizes::STATE;
 use zuc::Zuc;
 
 // The state that a line's words hold.
-fn state(w: [u32; 38]) -> Zuc
+fn state(w: [u32; STATE]) -> Zuc
     ensures { λ r. ⌜ r ≡ zucState w ⌝ }
 {
     let a = [
@@ -40,7 +41,7 @@ fn state(w: [u32; 38]) -> Zuc
 }
 
 // The words of a state, zeros after them.
-fn words(s: Zuc) -> [u32; 38]
+fn words(s: Zuc) -> [u32; STATE]
     ensures { λ r. ⌜ r ≡ zucWords s ⌝ }
 {
     let a = s.a;
@@ -87,7 +88,7 @@ fn words(s: Zuc) -> [u32; 38]
 }
 
 // S(0) of key and IV.
-pub fn open(key: &[u8], iv: &[u8]) -> [u32; 38]
+pub fn open(key: &[u8], iv: &[u8]) -> [u32; STATE]
     requires { ⌜ length (now key) ≡ 16 ⌝ }
     requires { ⌜ length (now iv) ≡ 16 ⌝ }
     ensures { λ r. ⌜ r ≡ zuc .init (now (key .entry)) (now (iv .entry)) ⌝ }
@@ -99,7 +100,7 @@ pub fn open(key: &[u8], iv: &[u8]) -> [u32; 38]
 
 // The text goes to the start of out, XORed with the keystream from byte skip of the unit of the words' state on; w then holds the state of the unit in which
 // the next byte lies.
-pub fn crypt(w: &mut [u32], skip: usize, text: &[u8], out: &mut [u8])
+pub fn xor_text(w: &mut [u32], skip: usize, text: &[u8], out: &mut [u8])
     requires { ⌜ (length (now w) ≡ stateWords) × (zuc .admits (now w) ≡ true) ⌝ }
     requires { ⌜ (skip < 4) × (length (now text) ≤ length (now out)) ⌝ }
     ensures { λ _. ⌜ (now (w .exit) ≡ stateAt (zuc .gen) (now (w .entry)) 0 ((skip + length (now (text .entry))) / 4)) × (now (out .exit) ≡ xorFrom (byteAt (zuc .gen) (now (w .entry)) 0) skip (now (text .entry)) ++ drop (length (now (text .entry))) (now (out .entry))) ⌝ }

@@ -7,8 +7,7 @@ use lib.Bits.{xor-self, xor-zero-r}
 use Rattle.words.specs.Word.{_⊕_}
 use Rattle.words.proofs.Xor.{xor-assoc}
 use Rattle.keystream.specs.Stream.{xorFrom}
-use Rattle.line.specs.declared.Line.{Line}
-use Rattle.machine.specs.Machine.{MLine, byteOf, enciphered}
+use Rattle.machine.specs.Machine.{Line, MLine, byteOf, enciphered}
 use Rattle.machine.specs.Logs.{Log}
 use Rattle.machine.specs.OneStream.{Streamed}
 

@@ -13,8 +13,7 @@ use Rattle.words.proofs.Registers.{listed}
 use Rattle.words.proofs.Digits.{word-bytes}
 use Rattle.keystream.proofs.Laws.{stateAt-rebase, byteAt-rebase, div-mono}
 use Rattle.ciphers.specs.States.{stateWords}
-use Rattle.line.specs.declared.Line.{Line}
-use Rattle.machine.specs.Machine.{MLine, genAt, unitAt, stateOf, byteOf, shown, based, spelt, imageOf, imageLine}
+use Rattle.machine.specs.Machine.{Line, MLine, genAt, unitAt, stateOf, byteOf, shown, based, spelt, imageOf, imageLine}
 use Rattle.machine.specs.OneStream.{GoesOn}
 use Rattle.machine.proofs.Lines.{unit-pos}
 

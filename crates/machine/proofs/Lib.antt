@@ -1,6 +1,7 @@
 pub mod Lines
 pub mod Rows
 pub mod Simulation
+pub mod Seen
 pub mod Images
 pub mod Explained
 pub mod Streams
@@ -8,3 +9,5 @@ pub mod OneStream
 pub mod Trunk
 pub mod Codes
 pub mod Deciphers
+pub mod Frames
+pub mod Steps

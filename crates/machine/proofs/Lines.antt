@@ -20,8 +20,7 @@ use Rattle.ciphers.specs.Fit.{Fit}
 use Rattle.ciphers.proofs.Tests.{both-left, both-right, both-true}
 use Rattle.ciphers.proofs.Sound.{sound}
 use Rattle.ciphers.proofs.States.{all-take}
-use Rattle.line.specs.declared.Line.{Line}
-use Rattle.machine.specs.Machine.{MLine, idle, idleLine, genOf, genAt, unitAt, stateOf, byteOf, shown, based, enciphered, moved, opened, imageLine, imageIn, limit, openOk, idleOk, lineOk, allOk}
+use Rattle.machine.specs.Machine.{Line, MLine, idle, idleLine, genOf, genAt, unitAt, stateOf, byteOf, shown, based, enciphered, moved, opened, imageLine, imageIn, imageLength, limit, openOk, idleOk, lineOk, allOk}
 
 pub unit-pos : (c : ℕ) → zero < genOf c .unit
 unit-pos c = sound c .unit-pos
@@ -93,7 +92,7 @@ resumed-good command h ok =
     good-open {l = based l} refl c (leb-true (l .n) limit (both-left (leb (l .n) limit) _ r)) (omega arith)
     (record {
       full = refl;
-      words = image-words (imageIn command) (all-take 161 (all-drop 2 h));
+      words = image-words (imageIn command) (all-take imageLength (all-drop 2 h));
       admitted = both-right (leb (l .n) limit) _ r;
     })
 

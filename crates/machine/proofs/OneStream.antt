@@ -14,8 +14,7 @@ use Rattle.words.specs.Lists.{iter}
 use Rattle.words.specs.Tests.{pick}
 use Rattle.keystream.specs.Stream.{stateAt}
 use Rattle.ciphers.specs.Table.{cipherAt}
-use Rattle.line.specs.declared.Line.{Line}
-use Rattle.machine.specs.Machine.{MLine, Machine, Seen, lineAt, idle, genOf, unitAt, stateOf, moved, shown, based, opened, limit, imageOf, imageLine, Call, Effect, refuse, put, crypt, park, public, decide, perform, step, seen, shows, freshMachine, freshCard}
+use Rattle.machine.specs.Machine.{Line, MLine, Machine, Seen, lineAt, idle, genOf, unitAt, stateOf, moved, shown, based, opened, limit, imageOf, imageLine, Call, Effect, refuse, put, crypt, park, public, decide, perform, step, seen, shows, freshMachine, freshCard}
 use Rattle.machine.specs.Logs.{Made, madeOf, machineRun, callsOf, cardAfter, lineOn, Did, did-nothing, did-open, did-crypt, did-park, did-resume, did-close, did, Log, begun, joined, noted, logAfter, logOf, standing}
 use Rattle.machine.specs.OneStream.{AllBytes, Streamed, GoesOn, On, Kept, Stands, OneStream, Takes, Counted}
 use Rattle.machine.proofs.Lines.{unit-pos, Good, good-idle, good-open, good-behind, shown-idle, shown-based, state-fit}
@@ -62,6 +61,13 @@ bytes-front (x ∷ xs) ys b = (b .0, bytes-front xs ys (b .1))
 pub log-append : (i : ℕ) (g : Log) (xs ys : List Made) → logAfter i g (xs ++ ys) ≡ logAfter i (logAfter i g xs) ys
 log-append i g [] ys = refl
 log-append i g (x ∷ xs) ys = log-append i (noted i g (did x)) xs ys
+
+-- a log after one call more, by what the call did, and what it does on its own line
+pub log-last : (i : ℕ) (xs : List Made) (x : Made) {d : Did} → did x ≡ d → logOf i (xs ++ (x ∷ [])) ≡ noted i (logOf i xs) d
+log-last i xs x e = log-append i (begun idle) xs (x ∷ []) ∙ ap (noted i (logOf i xs)) e
+
+pub on-its-line : (i : ℕ) (g h : Log) → pick (eqb i i) g h ≡ g
+on-its-line i g h = ap (λ (b : Bool). pick b g h) (eq-eqb i i refl)
 
 -- ---- the invariant
 
@@ -273,10 +279,7 @@ module _ (xs : List Made) (is : xs ≡ machineRun freshMachine (callsOf xs)) (by
       let k = place before (t .after ++ (x ∷ s .after)) p e in
       let w = park-wrote m (p .call) _ (did p) (k .did-is) i image dp in
       let g = image-goes-on (lineAt m i) (good-behind (lineAt m i) (good-get (k .at .good) i)) (sized (lineAt m i) (good-get (k .at .good) i) (w .up)) image (w .is) in
-      let l : logOf j (sofar ++ (x ∷ [])) ≡ begun (based (imageLine image)) =
-      log-append j (begun idle) sofar (x ∷ []) ∙ ap (noted j (logOf j sofar)) dx
-      ∙ ap (λ (b : Bool). pick b (begun (based (imageLine image))) (logOf j sofar)) (eq-eqb j j refl) in
-      subst (λ (y : Log). GoesOn (standing (logOf i before)) (y .start)) (sym l)
+      subst (λ (y : Log). GoesOn (standing (logOf i before)) (y .start)) (sym (log-last j sofar x dx ∙ on-its-line j _ _))
       (subst (λ (y : MLine). GoesOn y (based (imageLine image))) (k .at .held i .line) g)
 
   others-at : {before : List Made} {x : Made} → Stands before x xs → (i : ℕ) → (On i x → ⊥) → Kept i before x
@@ -305,9 +308,7 @@ module _ (xs : List Made) (is : xs ≡ machineRun freshMachine (callsOf xs)) (by
       let m = machineAfter freshMachine before in
       let k = place before (s .after) x (s .is) in
       let here : lineOn (cardAfter freshCard before) i ≡ shown (lineAt m i) = ap (λ (c : Seen). lineOn c i) (k .at .card) ∙ seen-at m i in
-      let l : logOf i (before ++ (x ∷ [])) ≡ joined (logOf i before) input output =
-      log-append i (begun idle) before (x ∷ []) ∙ ap (noted i (logOf i before)) dx
-      ∙ ap (λ (b : Bool). pick b (joined (logOf i before) input output) (logOf i before)) (eq-eqb i i refl) in
+      let l : logOf i (before ++ (x ∷ [])) ≡ joined (logOf i before) input output = log-last i before x dx ∙ on-its-line i _ _ in
       record {
         from = ap (λ (y : Line). y .n) here ∙ held-streamed (lineAt m i) (logOf i before) (k .at .held i) .position;
         to =

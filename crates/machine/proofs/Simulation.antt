@@ -19,8 +19,7 @@ use Rattle.command.specs.declared.Command.the-variants.{Tray, Own, Crypt, Park,
 use Rattle.command.specs.declared.Decoded.{Decoded}
 use Rattle.command.specs.declared.Decoded.the-variants.{Run, Refused}
 use Rattle.command.specs.Decode.{decodeOf, numberOf}
-use Rattle.line.specs.declared.Line.{Line}
-use Rattle.machine.specs.Machine.{MLine, Machine, idle, shown, based, moved, enciphered, imageOf, lineAt, seen, back, lineCount, View, noView, viewOf, public, viewAt, isOpen, limit, keyIn, ivIn, Call, Effect, refuse, put, crypt, park, effectOf, ofDecoded, decide, answer, perform, step, shows, cardStep, freshMachine}
+use Rattle.machine.specs.Machine.{Line, MLine, Machine, idle, shown, based, moved, enciphered, imageOf, lineAt, seen, back, lineCount, View, noView, viewOf, public, viewAt, isOpen, limit, keyIn, ivIn, Call, Effect, refuse, put, crypt, park, effectOf, ofDecoded, decide, answer, perform, step, shows, cardStep, freshMachine}
 use Rattle.machine.specs.OneStream.{CallBytes}
 use Rattle.machine.proofs.Lines.{Good, good-idle, shown-idle, shown-based, all-ok, opened-good, resumed-good, moved-same, crypted-same, moved-good, good-behind}
 use Rattle.machine.proofs.Rows.{Passed, by-rows}

@@ -4,7 +4,7 @@
 use mathlib.Core.Path.{_≡_, refl, ap, ap₂, sym, _∙_, subst}
 use mathlib.Core.Bool.{Bool}
 use mathlib.Core.List.{List, [], _∷_, _++_, append-assoc, append-nil}
-use Prim.Native.Nat.{ℕ, _+_}
+use Prim.Native.Nat.{ℕ, _+_, _/_}
 use native.Mathlib.Omega.{arith}
 use lib.ListN.{length}
 use borrow.Author.Tests.{eq-eqb}
@@ -12,12 +12,12 @@ use Rattle.words.specs.Tests.{pick}
 use Rattle.keystream.specs.Stream.{xorFrom}
 use Rattle.keystream.proofs.Laws.{xorFrom-append, xorFrom-agree}
 use Rattle.ciphers.specs.Table.{cipherAt}
-use Rattle.line.specs.declared.Line.{Line}
-use Rattle.machine.specs.Machine.{Seen, byteOf, moved, idle, opened, imageLine, freshMachine, freshCard}
+use Rattle.machine.specs.Machine.{Line, MLine, Seen, genOf, unitAt, byteOf, stateOf, moved, shown, idle, opened, imageLine, freshMachine, freshCard}
 use Rattle.machine.specs.Logs.{Made, machineRun, callsOf, cardAfter, lineOn, did, did-open, did-park, did-resume, Log, begun, noted, logOf, standing}
 use Rattle.machine.specs.OneStream.{Streamed, GoesOn, On, Stands, OneStream}
 use Rattle.machine.proofs.Deciphers.{given-back}
-use Rattle.machine.proofs.OneStream.{log-append}
+use Rattle.machine.proofs.Lines.{shown-based}
+use Rattle.machine.proofs.OneStream.{log-last, on-its-line}
 
 -- ---- the same calls, the same answers
 
@@ -83,11 +83,7 @@ heard near far s t i j e h = given-back (logOf i near) (logOf j far) _ _ (s .str
 
 -- an open on line i begins its log
 began : (before : List Made) (x : Made) (i c : ℕ) (key iv : List ℕ) → did x ≡ did-open i c key iv → logOf i (before ++ (x ∷ [])) .start ≡ opened c key iv
-began before x i c key iv d =
-    ap (λ (g : Log). g .start)
-    (log-append i (begun idle) before (x ∷ [])
-    ∙ ap (noted i (logOf i before)) d
-    ∙ ap (λ (b : Bool). pick b (begun (opened c key iv)) (logOf i before)) (eq-eqb i i refl))
+began before x i c key iv d = ap (λ (g : Log). g .start) (log-last i before x d ∙ on-its-line i _ _)
 
 -- Two ends that were opened with the same cipher number, key and IV, and have begun no other stream since then: what the near end was given is heard at the far end.
 pub both-ends : (near far before before' : List Made) → OneStream near → OneStream far → {x y : Made} → Stands before x near → Stands before' y far →
@@ -98,6 +94,39 @@ both-ends near far before before' s t {x = x} {y = y} _ _ i j c key iv dx dy ex 
     heard near far s t i j (ey ∙ began before' y j c key iv dy ∙ sym (ex ∙ began before x i c key iv dx)) h
 
 -- ---- parked and taken up
+
+-- what is seen of a line is its log's stream, as far on as its inputs go
+streamed-shown : (l : Line) (g : Log) → Streamed l g → l ≡ shown (standing g)
+unfolding shown moved unitAt stateOf
+streamed-shown l g s =
+    λ k. record {
+      mode = s .mode k;
+      cipher = s .cipher k;
+      n = s .position k;
+      words = (s .state ∙ ap₂ (λ (n c : ℕ). stateOf (g .start) (n / genOf c .unit)) (s .position) (s .cipher)) k;
+    }
+
+-- a line that goes on where another stands is seen as that one is
+goes-on-shown : (l l' : MLine) → GoesOn l l' → shown l' ≡ shown l
+unfolding shown unitAt
+goes-on-shown l l' h =
+    λ k. record {
+      mode = h .mode k;
+      cipher = h .cipher k;
+      n = h .position k;
+      words = (ap₂ (λ (n c : ℕ). stateOf l' (n / genOf c .unit)) (h .position) (h .cipher) ∙ h .states (l .pos) (omega arith)) k;
+    }
+
+-- A line that is taken up, on whichever line, is seen as the line was that was parked (after the list before).
+pub taken-up : (before sofar : List Made) (x : Made) {p : Made} → OneStream before → OneStream (sofar ++ (x ∷ [])) → Stands before p sofar → (i j : ℕ) (image : List ℕ) →
+    did p ≡ did-park i image → did x ≡ did-resume j image → lineOn (x .card) j ≡ lineOn (cardAfter freshCard before) i
+taken-up before sofar x o o' t i j image dp dx =
+    let s : Stands sofar x (sofar ++ (x ∷ [])) = record { after = []; is = refl } in
+    o' .from-image s j image dx
+    ∙ sym (shown-based (imageLine image))
+    ∙ ap (λ (g : Log). shown (g .start)) (sym (log-last j sofar x dx ∙ on-its-line j _ _))
+    ∙ goes-on-shown _ _ (o' .goes-on s t i j image dp dx)
+    ∙ sym (streamed-shown _ (logOf i before) (o .streams i))
 
 -- The outputs of a line up to its park and those of the line that goes on there, joined, are their inputs joined, enciphered with the one stream.
 joined-across : (g g' : Log) (l l' : Line) → Streamed l g → Streamed l' g' → GoesOn (standing g) (g' .start) →

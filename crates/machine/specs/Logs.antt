@@ -5,12 +5,11 @@ use mathlib.Core.List.{List, [], _∷_, _++_}
 use lib.ListN.{length, getD, take, drop}
 use lib.Dec.{eqb}
 use Rattle.words.specs.Tests.{pick}
-use Rattle.line.specs.declared.Line.{Line}
 use Rattle.command.specs.declared.Command.the-variants.{Tray, Own, Crypt, Park, Resume, Close}
 use Rattle.command.specs.declared.Decoded.{Decoded}
 use Rattle.command.specs.declared.Decoded.the-variants.{Run, Refused}
 use Rattle.command.specs.Decode.{decodeOf, numberOf}
-use Rattle.machine.specs.Machine.{MLine, Call, Shown, Seen, Machine, idle, idleLine, moved, opened, based, imageLine, imageIn, keyIn, ivIn, shows, step}
+use Rattle.machine.specs.Machine.{Line, MLine, Call, Shown, Seen, Machine, idle, idleLine, moved, opened, based, imageLine, imageIn, keyIn, ivIn, shows, step}
 
 -- ---- the list
 

@@ -7,6 +7,8 @@ use mathlib.Core.List.{List, [], _∷_, _++_, map}
 use Prim.Native.Nat.{ℕ, zero, suc, _+_, _*_, _/_, _%_, _^_}
 use lib.Dec.{ltb, leb, eqb}
 use lib.ListN.{length, getD, take, drop, set, replicate}
+pub use Rattle.card_sizes.specs.Sizes.{imageLength, lineCount}
+use Rattle.card_sizes.specs.Sizes.{imageState, keyLength, ivLength, fullTray, trayIv, ownKey, ownIv, resumeImage}
 use Rattle.words.specs.Lists.{tab}
 use Rattle.words.specs.Strings.{wordAt, bytesOf}
 use Rattle.words.specs.Tests.{both, pick}
@@ -18,9 +20,15 @@ use Rattle.command.specs.declared.Command.the-variants.{Tray, Own, Crypt, Park,
 use Rattle.command.specs.declared.Decoded.{Decoded}
 use Rattle.command.specs.declared.Decoded.the-variants.{Run, Refused}
 use Rattle.command.specs.Decode.{decodeOf, numberOf, lineOf, kindOf, sizeOf}
-use Rattle.line.specs.declared.Line.{Line}
 
 -- ---- lines
+
+-- What is seen of a line: its mode (0 idle, 1 open), and if it is open its cipher's number, its position n, and S(n div u), the state that byte n is read from, as words; else zeros.
+pub record Line : Type 0 where
+  pub mode : ℕ
+  pub cipher : ℕ
+  pub n : ℕ
+  pub words : List ℕ
 
 -- a mode (0 idle, 1 open), a cipher, document 01's base state B, base unit m and position n
 pub record MLine : Type 0 where
@@ -74,10 +82,7 @@ moved l k = record { mode = l .mode; cipher = l .cipher; base = l .base; from = 
 unfoldable pub opened : ℕ → List ℕ → List ℕ → MLine
 opened c key iv = record { mode = 1; cipher = c; base = cipherAt c .init key iv; from = 0; pos = 0 }
 
--- ---- images: cipher 1, n in 8 bytes, the state, zeros to 161 bytes
-
-abbrev pub imageLength : ℕ
-imageLength = 161
+-- ---- images: cipher 1, n in 8 bytes, the state and zeros behind it
 
 -- words one after the other, most significant byte first
 abbrev pub spelt : List ℕ → List ℕ
@@ -91,11 +96,11 @@ imageOf l = l .cipher ∷ spelt (l .n / 2 ^ 32 ∷ l .n % 2 ^ 32 ∷ l .words)
 -- the open line that an image holds
 unfoldable pub imageLine : List ℕ → Line
 imageLine img =
-    record { mode = 1; cipher = getD img 0 0; n = wordAt img 1 * 2 ^ 32 + wordAt img 5; words = tab stateWords (λ i. wordAt img (9 + 4 * i)) }
+    record { mode = 1; cipher = getD img 0 0; n = wordAt img 1 * 2 ^ 32 + wordAt img 5; words = tab stateWords (λ i. wordAt img (imageState + 4 * i)) }
 
 -- the image that a resume brings
 abbrev pub imageIn : List ℕ → List ℕ
-imageIn command = take imageLength (drop 2 command)
+imageIn command = take imageLength (drop resumeImage command)
 
 -- ---- what numbers 8 and 255 ask
 
@@ -145,6 +150,9 @@ withLine m i l = record { lines = set (m .lines) i l }
 pub record Seen : Type 0 where
   pub lines : List Line
 
+abbrev pub withLineSeen : Seen → ℕ → Line → Seen
+withLineSeen c i l = record { lines = set (c .lines) i l }
+
 abbrev pub seen : Machine → Seen
 seen m = record { lines = map shown (m .lines) }
 
@@ -152,19 +160,20 @@ seen m = record { lines = map shown (m .lines) }
 abbrev pub back : Seen → Machine
 back s = record { lines = map based (s .lines) }
 
-abbrev pub lineCount : ℕ
-lineCount = 8
-
 abbrev pub freshCard : Seen
-freshCard = record { lines = replicate 8 idleLine }
+freshCard = record { lines = replicate lineCount idleLine }
 
 abbrev pub freshMachine : Machine
-freshMachine = record { lines = replicate 8 idle }
+freshMachine = record { lines = replicate lineCount idle }
 
 -- each of the first k lines is as a call leaves it
 abbrev pub allOk : ℕ → List Line → Bool
 allOk zero ls = true
 allOk (suc k) ls = both (allOk k ls) (lineOk (getD ls k idleLine))
+
+-- a card that is as a call leaves it
+abbrev pub cardOk : Seen → Bool
+cardOk c = allOk lineCount (c .lines)
 
 -- of a line its mode, its cipher and its position are public
 pub record View : Type 0 where
@@ -244,12 +253,12 @@ countOf (Park i) = 0
 countOf (Resume i) = 0
 countOf (Close i) = 0
 
--- the 32 bytes of a key, a part of the tray or a part of the command, and the 16 bytes of an IV; the cipher's own stand first, zeros after
+-- a key, a part of the tray or a part of the command, and an IV; the cipher's own bytes stand first, zeros after
 abbrev pub keyField : Command → Call → List ℕ
-keyField c a = pick (fromTray c) (take 32 (drop (32 * keyNumber c) (a .tray))) (take 32 (drop 3 (a .command)))
+keyField c a = pick (fromTray c) (take keyLength (drop (keyLength * keyNumber c) (a .tray))) (take keyLength (drop ownKey (a .command)))
 
 abbrev pub ivField : Command → Call → List ℕ
-ivField c a = take 16 (drop (pick (fromTray c) 4 35) (a .command))
+ivField c a = take ivLength (drop (pick (fromTray c) trayIv ownIv) (a .command))
 
 abbrev pub keyIn : Command → Call → List ℕ
 keyIn c a = take (cipherAt (cipherIn c) .key) (keyField c a)
@@ -263,7 +272,7 @@ spareUsed c key iv = not (both (allZero (drop (cipherAt c .key) key)) (allZero (
 
 -- a tray length that is a multiple of 32 and at most 8,192
 abbrev pub trayOk : ℕ → Bool
-trayOk n = both (eqb (n % 32) 0) (leb n 8192)
+trayOk n = both (eqb (n % keyLength) 0) (leb n fullTray)
 
 -- ---- what is to be done
 
@@ -297,7 +306,7 @@ decided c v a =
     -- tray length not a multiple of 32, or over 8,192
     (refuseIf (both (fromTray c) (not (trayOk (length (a .tray))))) 9
     -- key number not in it
-    (refuseIf (both (fromTray c) (ltb (length (a .tray)) (32 * keyNumber c + 32))) 10
+    (refuseIf (both (fromTray c) (ltb (length (a .tray)) (keyLength * keyNumber c + keyLength))) 10
     -- a key or IV byte beyond the cipher's length is not 0
     (refuseIf (both (opens c) (spareUsed (cipherIn c) (keyField c a) (ivField c a))) 7
     -- image: cipher, n, padding, ZUC cell, Rabbit carry
@@ -346,6 +355,6 @@ pub record Shown : Type 0 where
 abbrev pub shows : Stepped → Shown
 shows s = record { outcome = s .outcome; card = seen (s .machine) }
 
--- what a call on a card gives that is seen so: 255 where a line is not as a call leaves it, else the machine's step from what is seen
+-- what a call on a card gives that is seen so: 255 where it is not as a call leaves it, else the machine's step from what is seen
 unfoldable pub cardStep : Seen → Call → Shown
-cardStep c a = pick (allOk lineCount (c .lines)) (shows (step (back c) a)) (record { outcome = answer 255 0 0 []; card = c })
+cardStep c a = pick (cardOk c) (shows (step (back c) a)) (record { outcome = answer 255 0 0 []; card = c })

@@ -7,18 +7,20 @@ use lib.ListN.{length, getD}
 use Rattle.words.specs.Lists.{All, Byte}
 use Rattle.keystream.specs.Stream.{xorFrom}
 use Rattle.ciphers.specs.Table.{cipherAt}
-use Rattle.line.specs.declared.Line.{Line}
-use Rattle.machine.specs.Machine.{MLine, Call, genOf, genAt, byteOf, stateOf, imageLine, limit, freshMachine, freshCard}
+use Rattle.machine.specs.Machine.{Line, MLine, Call, genOf, genAt, byteOf, stateOf, imageLine, limit, freshMachine, freshCard}
 use Rattle.machine.specs.Logs.{Made, machineRun, callsOf, cardAfter, lineOn, did, did-open, did-crypt, did-park, did-resume, Log, logOf, standing}
 
--- The only hypothesis: the buffers that a key, an IV or an image is read from hold bytes.
+-- The buffers that a key, an IV or an image is read from hold bytes. The entries promise it of what they were lent.
 pub record CallBytes (a : Call) : Type 0 where
   pub command : All Byte (a .command)
   pub tray : All Byte (a .tray)
 
+abbrev pub BytesIn : List Call → Type 0
+BytesIn [] = Unit {0}
+BytesIn (a ∷ more) = CallBytes a × BytesIn more
+
 abbrev pub AllBytes : List Made → Type 0
-AllBytes [] = Unit {0}
-AllBytes (x ∷ xs) = CallBytes (x .call) × AllBytes xs
+AllBytes xs = BytesIn (callsOf xs)
 
 -- A line, as it is seen, and its log: the outputs joined are the inputs joined, each byte XORed with the keystream byte of its position.
 pub record Streamed (l : Line) (g : Log) : Type 0 where

@@ -1,2 +1,2 @@
-mod Cards
 mod Results
+pub mod Program

@@ -14,56 +14,47 @@ use Rattle.words.specs.Tests.{pick}
 use Rattle.words.proofs.Ranges.{all-drop}
 use Rattle.machine.specs.Machine.{Call, Seen, cardStep, freshCard}
 use Rattle.machine.specs.Logs.{Made}
-use Rattle.machine.specs.OneStream.{AllBytes, OneStream, Counted}
-use Rattle.answer.specs.declared.Card.{Card}
-use Rattle.answer.specs.Answer.{seenOf, answerOf, outOf, fresh}
-use Rattle.card.specs.Ran.{Ran, none, call}
-use Rattle.card.proofs.Program.{one-stream, counted}
+use Rattle.machine.specs.OneStream.{OneStream, Counted}
+use Rattle.machine.specs.Steps.{Steps, none, step}
+use Rattle.machine.proofs.Steps.{steps-one-stream, steps-counted}
+use Rattle.ciphers.proofs.States.{all-take}
+use Rattle.session.specs.declared.Ended.{Ended}
+use Rattle.session.specs.Progress.{Promised}
 use Rattle.session.specs.Session.{made, rest, calls, readLength, lent, session}
 use Rattle.session.proofs.Bounds.{bounded}
 
 -- ---- demand 3
 
--- the card after a call
-abbrev kept : Card → Call → Card
-kept c a = answerOf (cardStep (seenOf c) a) .card
-
-calls-ran : (k : ℕ) (c : Card) (a : Call) → Ran c (calls k (seenOf c) a)
-unfolding calls made answerOf outOf
-calls-ran zero c a = none
-calls-ran (suc k) c a = first (eqb (length (a .command)) 0) (next (eqb (made (seenOf c) a .code) 0) (calls-ran k (kept c a) (rest a (made (seenOf c) a))))
+-- the program's calls are steps of its card, and lent bytes where its buffers hold bytes
+calls-steps : (k : ℕ) (c : Seen) (a : Call) → All Byte (a .command) → All Byte (a .tray) → Steps c (calls k c a)
+unfolding calls made rest
+calls-steps zero c a p q = none
+calls-steps (suc k) c a p q =
+    first (eqb (length (a .command)) 0)
+    (next (eqb (made c a .code) 0) (calls-steps k (made c a .card) (rest a (made c a)) (all-drop (made c a .used-command) p) q))
   where
-    next : (b : Bool) {xs : List Made} → Ran (kept c a) xs → Ran (kept c a) (pick b xs [])
+    next : (b : Bool) {xs : List Made} → Steps (made c a .card) xs → Steps (made c a .card) (pick b xs [])
     next true h = h
     next false h = none
 
-    first : (b : Bool) {xs : List Made} → Ran (kept c a) xs → Ran c (pick b [] (made (seenOf c) a ∷ xs))
+    first : (b : Bool) {xs : List Made} → Steps (made c a .card) xs → Steps c (pick b [] (made c a ∷ xs))
     first true h = none
-    first false h = call (record { answer-is = refl; out-is = refl }) h
-
--- the buffers of each call hold bytes where the program's do
-calls-bytes : (k : ℕ) (c : Seen) (a : Call) → All Byte (a .command) → All Byte (a .tray) → AllBytes (calls k c a)
-unfolding calls made rest
-calls-bytes zero c a p q = tt
-calls-bytes (suc k) c a p q =
-    first (eqb (length (a .command)) 0) _ (next (eqb (made c a .code) 0) _ (calls-bytes k (made c a .card) (rest a (made c a)) (all-drop (made c a .used-command) p) q))
-  where
-    next : (b : Bool) (xs : List Made) → AllBytes xs → AllBytes (pick b xs [])
-    next true xs h = h
-    next false xs h = tt
-
-    first : (b : Bool) (xs : List Made) → AllBytes xs → AllBytes (pick b [] (made c a ∷ xs))
-    first true xs h = tt
-    first false xs h = (record { command = p; tray = q }, h)
+    first false h = step (record { command = p; tray = q }) h
 
 module _ (commands tray text out : List ℕ) (p : All Byte (take readLength commands)) (q : All Byte (take readLength tray)) where
   pub session-one-stream : OneStream (session commands tray text out)
-  session-one-stream =
-      one-stream (session commands tray text out) (calls-ran readLength fresh (lent commands tray text out)) (calls-bytes readLength freshCard (lent commands tray text out) p q)
+  session-one-stream = steps-one-stream (session commands tray text out) (calls-steps readLength freshCard (lent commands tray text out) p q)
 
   pub session-counted : Counted (session commands tray text out)
-  session-counted =
-      counted (session commands tray text out) (calls-ran readLength fresh (lent commands tray text out)) (calls-bytes readLength freshCard (lent commands tray text out) p q)
+  session-counted = steps-counted (session commands tray text out) (calls-steps readLength freshCard (lent commands tray text out) p q)
+
+-- Demand 3 of every run of the program, by its promise alone.
+module _ {commands tray text out table out' table' : List ℕ} {r : Ended} (h : Promised commands tray text out table out' table' r) where
+  pub run-one-stream : OneStream (session commands tray text out)
+  run-one-stream = session-one-stream commands tray text out (all-take readLength (h .command-bytes)) (all-take readLength (h .tray-bytes))
+
+  pub run-counted : Counted (session commands tray text out)
+  run-counted = session-counted commands tray text out (all-take readLength (h .command-bytes)) (all-take readLength (h .tray-bytes))
 
 -- ---- where it ends
 

@@ -15,13 +15,15 @@ use borrow.Author.Tests.{eq-eqb, ne-eqb, eqb-true}
 use Rattle.words.specs.Tests.{pick}
 use Rattle.machine.specs.Machine.{Call, Seen, cardStep, freshCard}
 use Rattle.machine.specs.Logs.{Made}
-use Rattle.answer.specs.Answer.{seenOf, callOf}
+use Rattle.card_layout.specs.Words.{cardIn, lineIn}
+use Rattle.card_outcome.specs.Leaves.{callOf}
+use Rattle.card.specs.Ran.{seenOf}
 use Rattle.decimal.specs.Decimal.{decimal}
 use Rattle.decimal.proofs.Digits.{digits-few}
 use Rattle.session.specs.declared.Progress.{Progress}
 use Rattle.session.specs.Session.{made, rest, calls, readLength, writtenBy, accepted, lastCode, Behind, figure, space, newline, columns, rowOf, rowsFrom, endOf, tableOf, session}
 use Rattle.session.specs.Progress.{startOf, here, next, acceptedOf, Ready, Turned, Sizes, Finished, Leaves}
-use Rattle.session.proofs.Text.{behind-front, behind-length}
+use Rattle.session.proofs.Text.{behind-front, behind-rest, behind-length}
 use Rattle.session.proofs.Bounds.{bounded, code-few}
 
 -- ---- one call of those that are left
@@ -76,7 +78,7 @@ accepted-most n code = by (eqb code 0)
     by true = omega arith
     by false = omega arith
 
-module _ (commands tray text out₀ : List ℕ) where
+module _ (commands tray text out₀ table₀ : List ℕ) where
   abbrev pub all : List Made
   all = calls readLength freshCard (record { command = commands; tray = tray; text = text; out = out₀ })
 
@@ -95,10 +97,11 @@ module _ (commands tray text out₀ : List ℕ) where
     pub bytes : take (p .out) out ++ writtenBy (left p out) ≡ writtenBy all
     pub unwritten : drop (p .out) out ≡ drop (p .out) out₀
     pub rows : take (p .table) table ++ rowsFrom (p .calls + 1) (left p out) ≡ columns ++ rowsFrom 1 all
+    pub unprinted : drop (p .table) table ≡ drop (p .table) table₀
     pub count : acceptedOf (p .calls) (p .code) + accepted (left p out) ≡ accepted all
     pub last-code : lastCode (p .code) (left p out) ≡ lastCode 0 all
 
-  module _ (table₀ : List ℕ) (sizes : Sizes commands text out₀ table₀) (p : Progress) (out table : List ℕ) (s : Sofar p out table) (zero-code : p .code ≡ 0) (more : p .command < length commands) where
+  module _ (sizes : Sizes commands text out₀ table₀) (p : Progress) (out table : List ℕ) (s : Sofar p out table) (zero-code : p .code ≡ 0) (more : p .command < length commands) where
     abbrev x : Made
     x = next p commands tray text out
 
@@ -239,6 +242,14 @@ module _ (commands tray text out₀ : List ℕ) where
           ∙ ap (λ (k : ℕ). take (p .table) table ++ (r k ++ rowsFrom (suc (p .calls + 1)) (left q out'))) (t .code-is)
           ∙ ap (λ (xs : List Made). take (p .table) table ++ rowsFrom (p .calls + 1) xs) (sym left-is) ∙ s .rows
 
+      unprinted-more : drop (q .table) table' ≡ drop (q .table) table₀
+      unprinted-more =
+          let r = rowOf (p .calls + 1) (q .code) (x .used-command) (x .used-data) (x .written) in
+          let e = t .table-is .end in
+          behind-rest (t .table-is) (q .table) (omega arith)
+          ∙ ap (λ (n : ℕ). drop n table) e ∙ sym (drop-drop (length r) (p .table) table)
+          ∙ ap (drop (length r)) (s .unprinted) ∙ drop-drop (length r) (p .table) table₀ ∙ ap (λ (n : ℕ). drop n table₀) (sym e)
+
       count-more : acceptedOf (q .calls) (q .code) + accepted (left q out') ≡ accepted all
       unfolding acceptedOf accepted
       count-more =
@@ -268,6 +279,7 @@ module _ (commands tray text out₀ : List ℕ) where
             bytes = bytes-more;
             unwritten = unwritten-more;
             rows = rows-more;
+            unprinted = unprinted-more;
             count = count-more;
             last-code = last-more;
           }
@@ -285,9 +297,9 @@ module _ (commands tray text out₀ : List ℕ) where
 
   -- ---- the start and the end
 
-  pub sofar-start : (table₀ : List ℕ) → Sizes commands text out₀ table₀ → Sofar (startOf 23) out₀ table₀
-  unfolding left here acceptedOf
-  sofar-start table₀ z =
+  pub sofar-start : Sizes commands text out₀ table₀ → Sofar (startOf 23) out₀ table₀
+  unfolding left here acceptedOf cardIn lineIn
+  sofar-start z =
       record {
         command-in = omega arith;
         text-in = omega arith;
@@ -299,6 +311,7 @@ module _ (commands tray text out₀ : List ℕ) where
         bytes = refl;
         unwritten = refl;
         rows = ap (λ (l : List ℕ). l ++ rowsFrom 1 all) (z .named);
+        unprinted = refl;
         count = zero-add (accepted all);
         last-code = refl;
       }
@@ -313,16 +326,17 @@ module _ (commands tray text out₀ : List ℕ) where
           let h = f (eqb-true (p .code) 0 e) in
           calls-none (readLength - p .calls) (seenOf (p .card)) (here p commands tray text out) (length-drop (p .command) commands ∙ (let z : length commands - p .command ≡ 0 = omega arith in z))
 
-  pub sofar-end : (table₀ : List ℕ) → Sizes commands text out₀ table₀ → (p : Progress) (out table : List ℕ) → Sofar p out table → (p .code ≡ 0 → length commands ≤ p .command) →
-      Finished commands tray text out₀ p out table
+  pub sofar-end : Sizes commands text out₀ table₀ → (p : Progress) (out table : List ℕ) → Sofar p out table → (p .code ≡ 0 → length commands ≤ p .command) →
+      Finished commands tray text out₀ table₀ p out table
   unfolding writtenBy rowsFrom accepted lastCode
-  sofar-end table₀ z p out table s f =
+  sofar-end z p out table s f =
       let e = none-left p out f in
       record {
         bytes = sym (append-nil (take (p .out) out)) ∙ ap (λ (xs : List Made). take (p .out) out ++ writtenBy xs) (sym e) ∙ s .bytes;
         unwritten = s .unwritten;
         out-in = omega (arith, s .out-in, s .out-length);
         rows = sym (append-nil (take (p .table) table)) ∙ ap (λ (xs : List Made). take (p .table) table ++ rowsFrom (p .calls + 1) xs) (sym e) ∙ s .rows;
+        unprinted = s .unprinted;
         table-in = omega (arith, s .table-in, s .table-length, s .used, s .command-in, z .commands-few, accepted-most (p .calls) (p .code));
         count = (let k : acceptedOf (p .calls) (p .code) ≡ acceptedOf (p .calls) (p .code) + 0 = omega arith in k)
             ∙ ap (λ (xs : List Made). acceptedOf (p .calls) (p .code) + accepted xs) (sym e) ∙ s .count;
@@ -345,21 +359,32 @@ sizes-of commands text out table c d table' ec ed lo lt et =
     length-take-most : (n : ℕ) (l : List ℕ) → length (take n l) ≤ n
     length-take-most n l = omega (arith, length-take n l, min-le-left n (length l))
 
-pub leaves : (commands tray text out c t d : List ℕ) → c ≡ take readLength commands → t ≡ take readLength tray → d ≡ take readLength text →
-    (p : Progress) (out' table table' : List ℕ) (k e : ℕ) → length out' ≡ length out → Finished c t d out p out' table → k ≡ acceptedOf (p .calls) (p .code) →
-    Behind (endOf k (p .code)) (p .table) table table' e → Leaves (session commands tray text out) out out' table' (record { written = p .out; printed = e })
+-- what is behind the printed text is as it was before the column names were put
+unprinted-all : (table table₁ : List ℕ) (n : ℕ) (l m : List ℕ) → table₁ ≡ columns ++ drop 23 table → n ≡ length ((columns ++ l) ++ m) → drop n table₁ ≡ drop n table
+unprinted-all table table₁ n l m et en =
+    let k : n ≡ 23 + length (l ++ m) = en ∙ ap length (append-assoc columns l m) ∙ length-append columns (l ++ m) in
+    ap₂ drop k et ∙ drop-append-add columns (drop 23 table) (length (l ++ m)) ∙ drop-drop (length (l ++ m)) 23 table ∙ ap (λ (x : ℕ). drop x table) (sym k)
+
+pub leaves : (commands tray text out table c t d : List ℕ) → c ≡ take readLength commands → t ≡ take readLength tray → d ≡ take readLength text →
+    (p : Progress) (out' table₁ table₂ table' : List ℕ) (k e : ℕ) → length out' ≡ length out → table₁ ≡ columns ++ drop 23 table → Finished c t d out table₁ p out' table₂ →
+    k ≡ acceptedOf (p .calls) (p .code) → Behind (endOf k (p .code)) (p .table) table₂ table' e → Leaves (session commands tray text out) out table out' table' (record { written = p .out; printed = e })
 unfolding tableOf
-leaves commands tray text out c t d ec et ed p out' table table' k e l f ek b =
+leaves commands tray text out table c t d ec et ed p out' table₁ table₂ table' k e l named f ek b =
     let xs = session commands tray text out in
     let same : calls readLength freshCard (callOf c t d out) ≡ xs = λ i. calls readLength freshCard (callOf (ec i) (et i) (ed i) out) in
     let bytes : take (p .out) out' ≡ writtenBy xs = f .bytes ∙ ap writtenBy same in
-    let rows : take (p .table) table ≡ columns ++ rowsFrom 1 xs = f .rows ∙ ap (λ (ys : List Made). columns ++ rowsFrom 1 ys) same in
+    let rows : take (p .table) table₂ ≡ columns ++ rowsFrom 1 xs = f .rows ∙ ap (λ (ys : List Made). columns ++ rowsFrom 1 ys) same in
     let last : endOf k (p .code) ≡ endOf (accepted xs) (lastCode 0 xs) =
     ap₂ endOf (ek ∙ f .count ∙ ap accepted same) (f .last-code ∙ ap (lastCode 0) same) in
     let text-is : take e table' ≡ tableOf xs = behind-front b ∙ ap₂ _++_ rows last in
+    let printed-is : e ≡ length (tableOf xs) = sym (length-take-le e table' (omega (arith, b .fits, behind-length b))) ∙ ap length text-is in
+    let n = length (endOf k (p .code)) in
+    let rest : drop e table' ≡ drop e table =
+    behind-rest b e (omega arith) ∙ ap (λ (x : ℕ). drop x table₂) (b .end) ∙ sym (drop-drop n (p .table) table₂) ∙ ap (drop n) (f .unprinted) ∙ drop-drop n (p .table) table₁
+    ∙ ap (λ (x : ℕ). drop x table₁) (sym (b .end)) ∙ unprinted-all table table₁ e (rowsFrom 1 xs) (endOf (accepted xs) (lastCode 0 xs)) named printed-is in
     record {
       written = sym (length-take-le (p .out) out' (omega (arith, l, f .out-in))) ∙ ap length bytes;
       out-is = sym (take-append-drop (p .out) out') ∙ ap₂ _++_ bytes (f .unwritten);
-      printed = sym (length-take-le e table' (omega (arith, b .fits, behind-length b))) ∙ ap length text-is;
-      table-is = text-is;
+      printed = printed-is;
+      table-is = sym (take-append-drop e table') ∙ ap₂ _++_ text-is rest;
     }

@@ -5,13 +5,15 @@ use mathlib.Core.List.{List, _++_}
 use Prim.Native.Nat.{ℕ, _+_, _-_, _≤_, _<_}
 use lib.Dec.{eqb}
 use lib.ListN.{length, take, drop}
+use Rattle.words.specs.Lists.{All, Byte}
 use Rattle.words.specs.Tests.{pick}
 use Rattle.machine.specs.Machine.{Call, freshCard}
 use Rattle.machine.specs.Logs.{Made}
-use Rattle.answer.specs.Answer.{seenOf, callOf, fresh}
+use Rattle.card_outcome.specs.Leaves.{callOf}
+use Rattle.card.specs.Ran.{seenOf, fresh}
 use Rattle.session.specs.declared.Progress.{Progress}
 use Rattle.session.specs.declared.Ended.{Ended}
-use Rattle.session.specs.Session.{made, calls, readLength, writtenBy, accepted, lastCode, Behind, columns, rowOf, rowsFrom, tableOf}
+use Rattle.session.specs.Session.{made, calls, readLength, writtenBy, accepted, lastCode, Behind, columns, rowOf, rowsFrom, tableOf, session}
 
 -- a run at its start, whose table has so many bytes
 abbrev pub startOf : ℕ → Progress
@@ -58,18 +60,25 @@ pub record Sizes (commands text out table : List ℕ) : Type 0 where
   pub named : take 23 table ≡ columns
 
 -- a run at its end: the bytes and the lines of all its calls
-pub record Finished (commands tray text out : List ℕ) (p : Progress) (out' table' : List ℕ) : Type 0 where
+pub record Finished (commands tray text out table : List ℕ) (p : Progress) (out' table' : List ℕ) : Type 0 where
   pub bytes : take (p .out) out' ≡ writtenBy (calls readLength freshCard (callOf commands tray text out))
   pub unwritten : drop (p .out) out' ≡ drop (p .out) out
   pub out-in : p .out ≤ length out
   pub rows : take (p .table) table' ≡ columns ++ rowsFrom 1 (calls readLength freshCard (callOf commands tray text out))
+  pub unprinted : drop (p .table) table' ≡ drop (p .table) table
   pub table-in : p .table + 46 ≤ length table'
   pub count : acceptedOf (p .calls) (p .code) ≡ accepted (calls readLength freshCard (callOf commands tray text out))
   pub last-code : p .code ≡ lastCode 0 (calls readLength freshCard (callOf commands tray text out))
 
--- what a run leaves in out and in the table
-pub record Leaves (xs : List Made) (out out' table' : List ℕ) (r : Ended) : Type 0 where
+-- what a run leaves in out and in the table, each whole: what is behind the written bytes and behind the printed text stays
+pub record Leaves (xs : List Made) (out table out' table' : List ℕ) (r : Ended) : Type 0 where
   pub written : r .written ≡ length (writtenBy xs)
   pub out-is : out' ≡ writtenBy xs ++ drop (r .written) out
   pub printed : r .printed ≡ length (tableOf xs)
-  pub table-is : take (r .printed) table' ≡ tableOf xs
+  pub table-is : table' ≡ tableOf xs ++ drop (r .printed) table
+
+-- the promise of a run: what it leaves, and that the files' contents that it was lent are bytes
+pub record Promised (commands tray text out table out' table' : List ℕ) (r : Ended) : Type 0 where
+  pub left : Leaves (session commands tray text out) out table out' table' r
+  pub command-bytes : All Byte commands
+  pub tray-bytes : All Byte tray

@@ -4,9 +4,9 @@ ghost use mathlib.Core.Path.{_≡_};
 ghost use mathlib.Core.List.{_++_};
 ghost use Prim.Native.Nat.{_+_, _≤_, _<_};
 ghost use lib.ListN.{length, take, drop};
-ghost use Rattle.session.specs.Session.{Behind, figure, rowOf, endOf, readLength, session};
-ghost use Rattle.session.specs.Progress.{startOf, acceptedOf, Ready, Turned, Sizes, Finished, Leaves};
-use answer::Card;
+ghost use Rattle.session.specs.Session.{Behind, figure, rowOf, endOf, readLength};
+ghost use Rattle.session.specs.Progress.{startOf, acceptedOf, Ready, Turned, Sizes, Finished, Promised};
+use card::Card;
 
 // Only so many bytes of each file are read.
 pub const READ: usize = 16384;
@@ -91,10 +91,11 @@ fn turn<'a>(
     let call = p.calls + 1;
     let card = p.card;
     let answer = card::call(card, &commands[i..], tray, &text[j..], &mut out[k..]);
-    let code = answer.code;
-    let used = answer.used_command;
-    let taken = answer.used_data;
-    let written = answer.written;
+    let outcome = answer.outcome;
+    let code = outcome.code;
+    let used = outcome.used_command;
+    let taken = outcome.used_data;
+    let written = outcome.written;
     let end = put_row(call, code, used, taken, written, at, table);
     let kept = answer.card;
     let command = i + used;
@@ -115,7 +116,7 @@ fn turn<'a>(
 fn start(table: usize) -> Progress
     ensures { λ r. ⌜ r ≡ startOf table ⌝ }
 {
-    let card = answer::fresh();
+    let card = card::fresh();
     Progress {
         card,
         command: 0,
@@ -149,7 +150,7 @@ fn run_calls<'a>(
     table: &mut [u8],
 ) -> Progress
     requires { ⌜ Sizes (now commands) (now text) (now out) (now table) ⌝ }
-    ensures { λ r. ⌜ Finished (now (commands .entry)) (now (tray .entry)) (now (text .entry)) (now (out .entry)) r (now (out .exit)) (now (table .exit)) ⌝ }
+    ensures { λ r. ⌜ Finished (now (commands .entry)) (now (tray .entry)) (now (text .entry)) (now (out .entry)) (now (table .entry)) r (now (out .exit)) (now (table .exit)) ⌝ }
 {
     let n = commands.len();
     let mut p = start(23);
@@ -168,7 +169,7 @@ fn first(s: &[u8]) -> &[u8]
     &s[..e]
 }
 
-// Runs the commands. The written bytes go to the start of out and the table to the start of table; what is behind the written bytes stays.
+// Runs the commands. The written bytes go to the start of out and the table to the start of table; what is behind them stays.
 pub fn run<'a>(
     commands: &'a [u8],
     tray: &'a [u8],
@@ -176,7 +177,7 @@ pub fn run<'a>(
     out: &mut [u8; OUT],
     table: &mut [u8; TABLE],
 ) -> Ended
-    ensures { λ r. ⌜ Leaves (session (now (commands .entry)) (now (tray .entry)) (now («data» .entry)) (now (out .entry))) (now (out .entry)) (now (out .exit)) (now (table .exit)) r ⌝ }
+    ensures { λ r. ⌜ Promised (now (commands .entry)) (now (tray .entry)) (now («data» .entry)) (now (out .entry)) (now (table .entry)) (now (out .exit)) (now (table .exit)) r ⌝ }
 {
     let c = first(commands);
     let t = first(tray);

@@ -15,6 +15,11 @@ use Rattle.words.specs.Word.{_⊕_, _+₃₂_, word}
 use Rattle.words.specs.Strings.{wordAt, fourAt, bytesOf, bytesUp}
 use Rattle.words.specs.Lists.{All, none, more, tab, shifted, iter, Byte, Word}
 
+-- what is so at every place is so of all
+pub all-known : (P : ℕ → Type 0) (l : List ℕ) → ((i : ℕ) → P (getD l i 0)) → All P l
+all-known P [] h = none
+all-known P (x ∷ l) h = more (h 0) (all-known P l (λ i. h (suc i)))
+
 pub xor-word : {a b : ℕ} → Word a → Word b → Word (a ⊕ b)
 xor-word {a} {b} ha hb = xor-lt 32 a b ha hb
 

@@ -6,16 +6,16 @@ use Rattle.cardrun.proofs.run.Statement.{statement}
 use Rattle.cardrun.proofs.run.Tie as tie
 
 array-share-prefix-out : tie.Need-array-share-prefix-out
-array-share-prefix-out c = out-within (c .run .ensures)
+array-share-prefix-out c = out-within (c .run .ensures .left)
 
 slice-aggregate-save : tie.Need-slice-aggregate-save
-slice-aggregate-save c = out-front (c .before .run .ensures)
+slice-aggregate-save c = out-front (c .before .run .ensures .left)
 
 array-share-prefix-table : tie.Need-array-share-prefix-table
-array-share-prefix-table c = table-within (c .before .before .before .run .ensures)
+array-share-prefix-table c = table-within (c .before .before .before .run .ensures .left)
 
 slice-aggregate-write-all : tie.Need-slice-aggregate-write-all
-slice-aggregate-write-all c = table-front (c .before .before .before .before .run .ensures)
+slice-aggregate-write-all c = table-front (c .before .before .before .before .run .ensures .left)
 
 pub run-spec : {M : Type 1} → statement M
 run-spec =

@@ -1,5 +1,7 @@
 -- `session::run` meets its contract: the column names, the lines of all calls, and the last line.
 -- Assumes nothing.
+use Rattle.words.specs.Lists.{Byte}
+use Rattle.words.proofs.Ranges.{all-known}
 use Rattle.session.proofs.Sofar.{sizes-of, leaves}
 use borrow.Author.Needs.{needs}
 use Rattle.session.proofs.run.Statement.{statement}
@@ -14,9 +16,15 @@ run-calls-requires c κs =
 returns : tie.Need-returns
 returns c =
     let r = c .before .before .before in
-    let s = r .before .before .before .before .before .before .before .before .before .before .before .before in
-    leaves (s .args .commands .now) (s .args .tray .now) (s .args .«data» .now) (s .args .out .now) _ _ _ (r .before .before .before .before .before .before .before .before .first .ensures) (r .before .before .before .before .before .before .before .first2 .ensures)
-    (r .before .before .before .before .before .before .first3 .ensures) (r .run-calls .result) _ _ _ _ _ (r .run-calls .kept .1 .1 .1 .0) (r .run-calls .ensures) (c .before .before .accepted-of .ensures) (c .put-end .ensures)
+    let k = r .before .before .before .before .before .before .before .before .before .before in
+    let s = k .before .before in
+    record {
+      left =
+          leaves (s .args .commands .now) (s .args .tray .now) (s .args .«data» .now) (s .args .out .now) (s .args .table .now) _ _ _ (r .before .before .before .before .before .before .before .before .first .ensures) (r .before .before .before .before .before .before .before .first2 .ensures)
+          (r .before .before .before .before .before .before .first3 .ensures) (r .run-calls .result) _ _ _ _ _ _ (r .run-calls .kept .1 .1 .1 .0) (r .before .before .before .put .ensures) (r .run-calls .ensures) (c .before .before .accepted-of .ensures) (c .put-end .ensures);
+      command-bytes = all-known Byte (s .args .commands .now) (λ i. k .before .shared-slice-known .given i .fits);
+      tray-bytes = all-known Byte (s .args .tray .now) (λ i. k .shared-slice-known2 .given i .fits);
+    }
 
 pub run-spec : {M : Type 1} → statement M
 run-spec =

@@ -11,7 +11,7 @@ use Rattle.session.proofs.run_calls.Statement.{statement}
 use Rattle.session.proofs.run_calls.Tie as tie
 
 abbrev Inv-loop : tie.InvT-loop
-Inv-loop commands tray text out₀ table₀ n p₀ out table p = Sofar commands tray text out₀ p out table × (length table ≡ length table₀)
+Inv-loop commands tray text out₀ table₀ n p₀ out table p = Sofar commands tray text out₀ table₀ p out table × (length table ≡ length table₀)
 
 abbrev μ-loop : tie.MeasureT-loop
 μ-loop commands tray text out₀ table₀ n p₀ out table p = length commands - p .command + pick (eqb (p .code) 0) 1 0

@@ -1,7 +1,7 @@
 -- `session::start` meets its contract: a fresh card, and nothing used or written.
 -- Assumes nothing.
 use mathlib.Core.Path.{ap}
-use Rattle.answer.specs.declared.Card.{Card}
+use Rattle.card.specs.declared.Card.{Card}
 use borrow.Author.Needs.{needs}
 use Rattle.session.proofs.start.Statement.{statement}
 use Rattle.session.proofs.start.Tie as tie

@@ -10,7 +10,7 @@ use Rattle.session.proofs.turn.Tie as tie
 
 add-command : tie.Need-add-command
 add-command c =
-    let k = c .before .before .before .before .before .before .before in
+    let k = c .before .before .before .before .before .before .before .before in
     let s = k .before .before .before .before .before .before .before .before .before .before .before in
     let a = s .args in
     let h = command-within (a .p) (a .commands .now) (a .tray .now) (a .text .now) (a .out .now) _ _ (k .call .ensures) in
@@ -20,7 +20,7 @@ add-command c =
 
 add-data : tie.Need-add-data
 add-data c =
-    let k = c .before .before .before .before .before .before .before in
+    let k = c .before .before .before .before .before .before .before .before in
     let s = k .before .before .before .before .before .before .before .before .before .before .before in
     let a = s .args in
     let h = text-within (a .p) (a .commands .now) (a .tray .now) (a .text .now) (a .out .now) _ _ (k .call .ensures) in
@@ -30,7 +30,7 @@ add-data c =
 
 add-filled : tie.Need-add-filled
 add-filled c =
-    let k = c .before .before .before .before .before .before .before in
+    let k = c .before .before .before .before .before .before .before .before in
     let s = k .before .before .before .before .before .before .before .before .before .before .before in
     let a = s .args in
     let h = out-within (a .p) (a .commands .now) (a .tray .now) (a .text .now) (a .out .now) _ _ (k .call .ensures) (k .call .kept .1 .1 .1 .1 .0) in
@@ -40,7 +40,7 @@ add-filled c =
 
 returns : tie.Need-returns
 returns c =
-    let k = c .before .before .before .before .before .before .before in
+    let k = c .before .before .before .before .before .before .before .before in
     let s = k .before .before .before .before .before .before .before .before .before .before .before in
     let a = s .args in
     turned (a .p) (a .commands .now) (a .tray .now) (a .text .now) (a .out .now) _ _ (k .call .ensures) (a .table .now) _ _ (s .pre .out-in)

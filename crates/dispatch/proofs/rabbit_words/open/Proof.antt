@@ -11,7 +11,7 @@ use denote.Ref.{now}
 use Rattle.words.specs.Lists.{Byte}
 use Rattle.rabbit.specs.declared.Rabbit.{Rabbit}
 use Rattle.rabbit.proofs.Ranges.{init-range}
-use Rattle.dispatch.proofs.Literals.{all-known}
+use Rattle.words.proofs.Ranges.{all-known}
 
 words-requires : tie.Need-words-requires
 words-requires c κs =

@@ -1,0 +1,52 @@
+-- A crypt of a line's words from a place within a unit is one of the line from its position, and an open line has what a crypt asks.
+-- Assumes nothing.
+use mathlib.Core.Path.{_≡_, ap, sym, subst, _∙_}
+use mathlib.Core.Bool.{true}
+use mathlib.Core.List.{List, _++_}
+use Prim.Native.Nat.{ℕ, _+_, _/_, _%_, _<_}
+use native.Mathlib.Nat.{mod-lt}
+use lib.Dec.{leb}
+use lib.ListN.{length, drop}
+use Rattle.words.specs.Tests.{both}
+use Rattle.keystream.specs.Stream.{stateAt, byteAt, xorFrom}
+use Rattle.keystream.proofs.Parts.{stateAt-place, xorFrom-place}
+use Rattle.ciphers.specs.Table.{cipherAt, isCipher}
+use Rattle.ciphers.proofs.Sound.{sound}
+use Rattle.ciphers.proofs.Tests.{both-right}
+use Rattle.card_sizes.specs.Sizes.{stateWords}
+use Rattle.card_layout.proofs.Lines.{Plain}
+use Rattle.machine.specs.Machine.{Line, based, shown, moved, stateOf, unitAt, byteOf, enciphered, limit, openOk}
+
+-- a crypt from a place within a unit is one from the line's position
+pub crypted-line : (l : Line) (u : ℕ) → u ≡ cipherAt (l .cipher) .gen .unit → (text out w' out' : List ℕ) →
+    w' ≡ stateAt (cipherAt (l .cipher) .gen) (l .words) 0 ((l .n % u + length text) / cipherAt (l .cipher) .gen .unit) →
+    out' ≡ xorFrom (byteAt (cipherAt (l .cipher) .gen) (l .words) 0) (l .n % u) text ++ drop (length text) out →
+    (_≡_ {A = Line} (record { mode = l .mode; cipher = l .cipher; n = l .n + length text; words = w' }) (shown (moved (based l) (length text))))
+    × (out' ≡ enciphered (based l) text ++ drop (length text) out)
+unfolding shown moved based stateOf unitAt enciphered byteOf
+crypted-line l u eu text out w' out' e f =
+    let g = cipherAt (l .cipher) .gen in
+    let s = ap (λ (x : ℕ). stateAt g (l .words) 0 ((l .n % x + length text) / g .unit)) eu in
+    let b = ap (λ (x : ℕ). xorFrom (byteAt g (l .words) 0) (l .n % x) text) eu in (
+      ap (λ (x : List ℕ). record { mode = l .mode; cipher = l .cipher; n = l .n + length text; words = x })
+          (e ∙ s ∙ sym (stateAt-place g (sound (l .cipher) .unit-pos) (l .words) (l .n) (length text))),
+      f ∙ ap (λ (x : List ℕ). x ++ drop (length text) out) (b ∙ sym (xorFrom-place g (sound (l .cipher) .unit-pos) (l .words) (l .n) text)),
+    )
+
+-- what a crypt asks of an open line
+pub open-admits : (l : Line) → openOk l ≡ true → cipherAt (l .cipher) .admits (l .words) ≡ true
+unfolding openOk
+open-admits l h =
+    let a = cipherAt (l .cipher) .admits (l .words) in
+    both-right (leb (l .n) limit) a (both-right (isCipher (l .cipher)) (both (leb (l .n) limit) a) h)
+
+pub unit-up : (c u : ℕ) → u ≡ cipherAt c .gen .unit → 0 < u
+unit-up c u e = subst (λ (x : ℕ). 0 < x) (sym e) (sound c .unit-pos)
+
+pub place-within : (c n u : ℕ) → u ≡ cipherAt c .gen .unit → n % u < cipherAt c .gen .unit
+place-within c n u e = subst (λ (x : ℕ). n % x < cipherAt c .gen .unit) (sym e) (mod-lt n (sound c .unit-pos))
+
+-- a line that moved on is one that words can hold where its state is whole
+pub moved-plain : (l : Line) (k : ℕ) → Plain l → length (shown (moved (based l) k) .words) ≡ stateWords → Plain (shown (moved (based l) k))
+unfolding shown moved based
+moved-plain l k p f = record { mode = p .mode; cipher = p .cipher; full = f }

@@ -1,0 +1,72 @@
+-- `card_crypt::encipher` meets its contract: the state is taken on where it stands, from a place within a unit, and the words before it are written anew.
+-- Assumes nothing.
+use mathlib.Core.Path.{_≡_, ap, sym, subst, _∙_}
+use mathlib.Core.List.{List, _++_}
+use Prim.Native.Nat.{ℕ, _+_}
+use native.Mathlib.Omega.{arith}
+use lib.ListN.{length, take, drop}
+use Rattle.card_sizes.specs.Sizes.{stateWords, headWords, lineSize}
+use Rattle.machine.specs.Machine.{Line, openOk, based, shown, moved, enciphered}
+use Rattle.card_layout.specs.Words.{lineIn, lineWords}
+use Rattle.card_layout.proofs.Lines.{state-slice, head-back}
+use Rattle.card_crypt.specs.Crypted.{Crypted}
+use Rattle.card_crypt.proofs.Crypts.{crypted-line, open-admits, unit-up, place-within}
+use borrow.Author.Needs.{needs}
+use Rattle.card_crypt.proofs.encipher.Statement.{statement}
+use Rattle.card_crypt.proofs.encipher.Tie as tie
+
+-- ---- once the line is read
+
+abbrev start : tie.After-unit-of → tie.Start
+start p = p .before .before .before .before .before .before .before .before
+
+abbrev line : tie.After-unit-of → List ℕ
+line p = start p .args .line .now
+
+abbrev read : tie.After-unit-of → Line
+read p = record { mode = 1; cipher = p .before .before .before .cipher-of .result; n = p .before .position-of .result; words = take stateWords (drop headWords (line p)) }
+
+is-line : (p : tie.After-unit-of) → read p ≡ lineIn (line p)
+is-line p =
+    let s = start p in
+    λ j. record {
+      mode = sym (s .pre .0 .1 .0) j;
+      cipher = p .before .before .before .cipher-of .ensures j;
+      n = p .before .position-of .ensures .0 j;
+      words = state-slice (line p) (s .pre .0 .0) j;
+    }
+
+rem-skip : tie.Need-rem-skip
+rem-skip c = unit-up (read c .cipher) _ (c .unit-of .ensures)
+
+crypt-requires : tie.Need-crypt-requires
+crypt-requires c κs =
+    let p = c .before .before in
+    let s = start p in
+    let n : length (take stateWords (drop headWords (line p))) ≡ stateWords = search needs in
+    ((n, open-admits (read p) (ap openOk (is-line p) ∙ s .pre .0 .1 .1)), (place-within (read p .cipher) (read p .n) _ (p .unit-of .ensures), s .pre .1 .1))
+
+returns : tie.Need-returns
+returns c =
+    let h = c .before .before in
+    let k = h .before .before .before .before .before .before in
+    let p = k .before .before .before in
+    let s = start p in
+    let a = s .args in
+    let w = k .crypt .last .1 .0 in
+    let o = k .crypt .last .1 .1 .1 .1 .0 in
+    let n : length w ≡ stateWords = search needs in
+    let g = crypted-line (read p) _ (p .unit-of .ensures) (a .text .now) (a .out .now) w o (k .crypt .ensures .0) (k .crypt .ensures .1) in
+    let t = head-back 1 (read p .cipher) (read p .n + length (a .text .now)) w (line p) _ (s .pre .0 .0) n (h .put-head .ensures) in
+    let e : record { mode = 1; cipher = read p .cipher; n = read p .n + length (a .text .now); words = w } ≡ shown (moved (based (lineIn (line p))) (length (a .text .now))) =
+    g .0 ∙ ap (λ (l : Line). shown (moved (based l) (length (a .text .now)))) (is-line p) in
+    record {
+      words-are = t ∙ ap lineWords e;
+      full = sym (ap (λ (l : Line). length (l .words)) e) ∙ n;
+      out-is = g .1 ∙ ap (λ (l : Line). enciphered (based l) (a .text .now) ++ drop (length (a .text .now)) (a .out .now)) (is-line p);
+    }
+
+pub encipher-spec : {M : Type 1} → statement M
+encipher-spec =
+    tie.close (tie.spec (λ c κs. search needs) (λ c κs. search needs) (λ c κs. search needs) rem-skip (λ c. search needs) (λ c. search needs) (λ c. search needs) crypt-requires
+    (λ c. search needs) (λ c κs. search needs) (λ c. search needs) (λ c. search needs) returns)

@@ -1,0 +1,13 @@
+-- `card_image::position_in` meets its contract: each half is read from its own place.
+-- Assumes nothing.
+use Rattle.machine.specs.Machine.{imageLine}
+use borrow.Author.Needs.{needs}
+use Rattle.card_image.proofs.position_in.Statement.{statement}
+use Rattle.card_image.proofs.position_in.Tie as tie
+
+returns : tie.Need-returns
+unfolding imageLine
+returns c = cc
+
+pub position-in-spec : {M : Type 1} → statement M
+position-in-spec = tie.close (tie.spec (λ c κs. search needs) (search needs) (λ c κs. search needs) (search needs) (search needs) (search needs) returns)

@@ -1,0 +1,83 @@
+// A line's image, written to the start of a buffer from the line's words, and its fields read from one (document 01, "The card"): the cipher's byte, n in eight bytes, and the words of the
+// state with the zeros after it.
+// The caller must ensure that the buffer has an image's length, and that the words are a line's.
+ghost use mathlib.Core.Path.{_≡_};
+ghost use mathlib.Core.List.{_++_};
+ghost use Prim.Native.Nat.{_*_, _≤_};
+ghost use lib.ListN.{length, drop};
+ghost use Rattle.words.specs.Strings.{bytesOf};
+ghost use Rattle.card_sizes.specs.Sizes.{imageLength};
+ghost use Rattle.machine.specs.Machine.{spelt, imageOf, imageLine};
+ghost use Rattle.card_layout.specs.Words.{lineIn, LineHeld};
+use card_sizes::IMAGE_STATE;
+use card_sizes::STATE;
+
+// The bytes of w go to the start of out.
+fn put_word(w: u32, out: &mut [u8])
+    requires { ⌜ 4 ≤ length (now out) ⌝ }
+    ensures { λ _. ⌜ now (out .exit) ≡ bytesOf w ++ drop 4 (now (out .entry)) ⌝ }
+{
+    let b = words::bytes(w);
+    out[0] = b[0];
+    out[1] = b[1];
+    out[2] = b[2];
+    out[3] = b[3];
+}
+
+// The bytes of words go to the start of out.
+fn put_words(w: &[u32], out: &mut [u8])
+    requires { ⌜ 4 * length (now w) ≤ length (now out) ⌝ }
+    ensures { λ _. ⌜ now (out .exit) ≡ spelt (now (w .entry)) ++ drop (4 * length (now (w .entry))) (now (out .entry)) ⌝ }
+{
+    let n = w.len();
+    let mut i: usize = 0;
+    while i < n {
+        let x = w[i];
+        let at = 4 * i;
+        put_word(x, &mut out[at..]);
+        i += 1;
+    }
+}
+
+// The image of the line that stands in words, as long as every image, goes to the start of out.
+pub fn put(line: &[u32], out: &mut [u8])
+    requires { ⌜ LineHeld (now line) ⌝ }
+    requires { ⌜ imageLength ≤ length (now out) ⌝ }
+    ensures { λ _. ⌜ (length (imageOf (lineIn (now (line .entry)))) ≡ imageLength) × (now (out .exit) ≡ imageOf (lineIn (now (line .entry))) ++ drop imageLength (now (out .entry))) ⌝ }
+{
+    let cipher = card_layout::cipher_of(line);
+    out[0] = cipher;
+    put_words(&line[2..], &mut out[1..]);
+}
+
+// The cipher of the open line that an image holds.
+pub fn cipher_in(s: &[u8]) -> u8
+    requires { ⌜ imageLength ≤ length (now s) ⌝ }
+    ensures { λ r. ⌜ r ≡ imageLine (now (s .entry)) .cipher ⌝ }
+{
+    s[0]
+}
+
+// Its position.
+pub fn position_in(s: &[u8]) -> u64
+    requires { ⌜ imageLength ≤ length (now s) ⌝ }
+    ensures { λ r. ⌜ r ≡ imageLine (now (s .entry)) .n ⌝ }
+{
+    let high = words::word_at(s, 1) as u64;
+    let low = words::word_at(s, 5) as u64;
+    high * 4294967296 + low
+}
+
+// Its state.
+pub fn words_in(s: &[u8]) -> [u32; STATE]
+    requires { ⌜ imageLength ≤ length (now s) ⌝ }
+    ensures { λ r. ⌜ r ≡ imageLine (now (s .entry)) .words ⌝ }
+{
+    let mut w = [0u32; STATE];
+    let mut i: usize = 0;
+    while i < STATE {
+        w[i] = words::word_at(s, IMAGE_STATE + 4 * i);
+        i += 1;
+    }
+    w
+}

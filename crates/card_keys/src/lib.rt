@@ -1,0 +1,47 @@
+// The key of a command: which part of tray or command it is, and what number 7 says of it and of the IV.
+// The caller must ensure that the part is there, and that key and IV have their bytes.
+ghost use mathlib.Core.Path.{_≡_};
+ghost use Prim.Native.Nat.{_+_, _≤_};
+ghost use lib.ListN.{length, take, drop};
+ghost use Rattle.words.specs.Tests.{pick};
+ghost use Rattle.card_sizes.specs.Sizes.{keyLength, ivLength};
+ghost use Rattle.command.specs.Decode.{numberOf};
+ghost use Rattle.card_keys.specs.Keys.{keyCode};
+use card_checks::all_zero;
+use card_sizes::KEY;
+use ciphers::iv_of;
+use ciphers::key_of;
+use command::Cipher;
+
+// A key: a part of the command, or a part of the tray.
+pub fn key_part<'a>(tray: &'a [u8], command: &'a [u8], own: bool, at: usize) -> &'a [u8]
+    requires { ⌜ at + keyLength ≤ length (pick own (now command) (now tray)) ⌝ }
+    ensures { λ r. ⌜ now r ≡ take keyLength (drop at (pick own (now (command .entry)) (now (tray .entry)))) ⌝ }
+{
+    if own {
+        let e = at + KEY;
+        &command[at..e]
+    } else {
+        let e = at + KEY;
+        &tray[at..e]
+    }
+}
+
+// The number that refuses a key and an IV, or 0: 7 where a byte beyond the cipher's lengths is not 0.
+pub fn key_code(cipher: Cipher, key: &[u8], iv: &[u8]) -> u8
+    requires { ⌜ length (now key) ≡ keyLength ⌝ }
+    requires { ⌜ length (now iv) ≡ ivLength ⌝ }
+    ensures { λ r. ⌜ r ≡ keyCode (numberOf cipher) (now (key .entry)) (now (iv .entry)) ⌝ }
+{
+    let k = key_of(cipher);
+    let v = iv_of(cipher);
+    let plain = all_zero(&key[k..]);
+    if !plain {
+        return 7;
+    }
+    let clear = all_zero(&iv[v..]);
+    if !clear {
+        return 7;
+    }
+    0
+}

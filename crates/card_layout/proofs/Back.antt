@@ -1,0 +1,58 @@
+-- A card is read back from its words where words can hold its lines, as they can hold those of every machine that a list of calls leads to.
+-- Assumes nothing.
+use mathlib.Core.Path.{_≡_, refl, ap, ap₂, sym, _∙_}
+use mathlib.Core.List.{List, [], _∷_, _++_, map}
+use Prim.Native.Nat.{ℕ, _*_}
+use native.Mathlib.Omega.{arith}
+use lib.ListN.{length, length-map, length-append}
+use lib.Seq.{drop-at, take-at}
+use Rattle.card_sizes.specs.Sizes.{stateWords, lineSize, lineCount, cardSize}
+use Rattle.machine.specs.Machine.{Line, MLine, Machine, Seen, shown, unitAt, seen}
+use Rattle.machine.proofs.Lines.{Good, good-idle, good-open, good-ok, shown-idle, state-fit}
+use Rattle.machine.proofs.Simulation.{AllGood, none-good, more-good}
+use Rattle.card_layout.specs.Words.{lineIn, lineWords, linesIn, linesWords, cardIn, cardWords}
+use Rattle.card_layout.proofs.Lines.{Plain, small, line-read, line-length}
+use Rattle.card_layout.proofs.Cards.{lines-first}
+
+data AllPlain : List Line → Type 0 where
+  no-plain : AllPlain []
+  more-plain : {l : Line} {ls : List Line} → Plain l → AllPlain ls → AllPlain (l ∷ ls)
+
+lines-read : (ls : List Line) → AllPlain ls → linesIn (length ls) (linesWords ls) ≡ ls
+lines-read [] no-plain = refl
+lines-read (l ∷ ls) (more-plain s h) =
+    let n = line-length l (s .full) in
+    lines-first (length ls) (lineWords l ++ linesWords ls)
+    ∙ ap₂ (λ (x y : List ℕ). lineIn x ∷ linesIn (length ls) y) (take-at (lineWords l) (linesWords ls) lineSize n) (drop-at (lineWords l) (linesWords ls) lineSize n)
+    ∙ ap₂ _∷_ (line-read l s) (lines-read ls h)
+
+lines-length : (ls : List Line) → AllPlain ls → length (linesWords ls) ≡ lineSize * length ls
+lines-length [] no-plain = refl
+lines-length (l ∷ ls) (more-plain s h) = omega (arith, length-append (lineWords l) (linesWords ls), line-length l (s .full), lines-length ls h)
+
+full-of : (l : MLine) → Good l → length (shown l .words) ≡ stateWords
+unfolding shown
+full-of l good-idle = ap (λ (x : Line). length (x .words)) shown-idle
+full-of l (good-open m c p b f) = state-fit l (unitAt l) f .full
+
+good-plain : (l : MLine) → Good l → Plain (shown l)
+good-plain l g = let s = small (shown l) (good-ok l g) in record { mode = s .0; cipher = s .1; full = full-of l g }
+
+all-plain : {ls : List MLine} → AllGood ls → AllPlain (map shown ls)
+all-plain none-good = no-plain
+all-plain (more-good {l = l} g h) = more-plain (good-plain l g) (all-plain h)
+
+module _ (m : Machine) (g : AllGood (m .lines)) (n : length (m .lines) ≡ lineCount) where
+  abbrev ls : List Line
+  ls = map shown (m .lines)
+
+  eight : length ls ≡ lineCount
+  eight = length-map (m .lines) shown ∙ n
+
+  pub seen-read : cardIn (cardWords (seen m)) ≡ seen m
+  unfolding cardIn cardWords
+  seen-read = ap (λ (x : List Line). record { lines = x }) (ap (λ (k : ℕ). linesIn k (linesWords ls)) (sym eight) ∙ lines-read ls (all-plain g))
+
+  pub seen-length : length (cardWords (seen m)) ≡ cardSize
+  unfolding cardWords
+  seen-length = lines-length ls (all-plain g) ∙ ap (_*_ lineSize) eight

@@ -1,0 +1,169 @@
+-- A card's words, line by line: a line that is set stands in its words, and the words of the others are as they were.
+-- Assumes nothing.
+use mathlib.Core.Path.{_≡_, refl, ap, ap₂, sym, subst, _∙_}
+use mathlib.Core.List.{List, [], _∷_, _++_, append-assoc, append-nil}
+use Prim.Native.Nat.{ℕ, zero, suc, _+_, _-_, _*_, _<_, _≤_}
+use native.Mathlib.Nat.{not-suc-le-zero}
+use native.Mathlib.Decide.{decLt}
+use native.Mathlib.Omega.{arith}
+use borrow.Rule.Slice.PartMut.{putMid, post-is}
+use lib.ListN.{length, getD, take, drop, set, replicate, take-append-drop, length-drop}
+use lib.Seq.{length-take-le, drop-drop, drop-at, take-at, take-add, drop-length}
+use Rattle.card_sizes.specs.Sizes.{lineSize, lineCount, cardSize}
+use Rattle.machine.specs.Machine.{Line, Seen, idleLine, withLineSeen, freshCard}
+use Rattle.machine.specs.Logs.{lineOn}
+use Rattle.card_layout.specs.Words.{lineIn, lineWords, wordsAt, linesIn, linesWords, cardIn, cardWords, putLine, LineHeld, Held, Sound}
+use Rattle.card_layout.proofs.Lines.{Plain, line-read, line-length}
+
+-- ---- the lines of a card
+
+pub further : (j : ℕ) (ws : List ℕ) → drop (lineSize * j) (drop lineSize ws) ≡ drop (lineSize * suc j) ws
+further j ws =
+    let e : lineSize + lineSize * j ≡ lineSize * suc j = omega arith in
+    drop-drop (lineSize * j) lineSize ws ∙ ap (λ (k : ℕ). drop k ws) e
+
+pub lines-first : (k : ℕ) (ws : List ℕ) → linesIn (suc k) ws ≡ lineIn (take lineSize ws) ∷ linesIn k (drop lineSize ws)
+lines-first zero ws = refl
+lines-first (suc k) ws = ap₂ (λ (x : List Line) (y : List ℕ). x ++ (lineIn (take lineSize y) ∷ [])) (lines-first k ws) (sym (further k ws))
+
+line-at : (k i : ℕ) (ws : List ℕ) (d : Line) → i < k → getD (linesIn k ws) i d ≡ lineIn (wordsAt ws i)
+line-at zero i ws d h = absurd (not-suc-le-zero h)
+line-at (suc k) zero ws d h = ap (λ (x : List Line). getD x 0 d) (lines-first k ws)
+line-at (suc k) (suc i) ws d h =
+    ap (λ (x : List Line). getD x (suc i) d) (lines-first k ws) ∙ line-at k i (drop lineSize ws) d (omega arith)
+    ∙ ap (λ (x : List ℕ). lineIn (take lineSize x)) (further i ws)
+
+lines-count : (k : ℕ) (ws : List ℕ) → length (linesIn k ws) ≡ k
+lines-count zero ws = refl
+lines-count (suc k) ws = ap length (lines-first k ws) ∙ ap suc (lines-count k (drop lineSize ws))
+
+-- line i, read from its words
+pub line-here : (ws : List ℕ) (i : ℕ) → i < lineCount → lineOn (cardIn ws) i ≡ lineIn (wordsAt ws i)
+unfolding cardIn
+line-here ws i h = line-at lineCount i ws idleLine h
+
+pub card-lines : (ws : List ℕ) → length (cardIn ws .lines) ≡ lineCount
+unfolding cardIn
+card-lines ws = lines-count lineCount ws
+
+-- ---- the part that is a line's
+
+module _ (ws : List ℕ) (i : ℕ) (h : i < lineCount) (n : length ws ≡ cardSize) where
+  pub line-end : lineSize * i + lineSize ≤ length ws
+  line-end = omega arith
+
+  part-size : lineSize * i + lineSize - lineSize * i ≡ lineSize
+  part-size = omega arith
+
+  pub part-is : take (lineSize * i + lineSize - lineSize * i) (drop (lineSize * i) ws) ≡ wordsAt ws i
+  part-is = ap (λ (k : ℕ). take k (drop (lineSize * i) ws)) part-size
+
+  pub words-length : length (wordsAt ws i) ≡ lineSize
+  words-length = length-take-le lineSize (drop (lineSize * i) ws) (omega (arith, length-drop (lineSize * i) ws))
+
+  pub part-length : length (take (lineSize * i + lineSize - lineSize * i) (drop (lineSize * i) ws)) ≡ lineSize
+  part-length = ap length part-is ∙ words-length
+
+  pub line-part : lineIn (take (lineSize * i + lineSize - lineSize * i) (drop (lineSize * i) ws)) ≡ lineOn (cardIn ws) i
+  line-part = ap lineIn part-is ∙ sym (line-here ws i h)
+
+  -- a line that was written into the part
+  pub part-put : (ys : List ℕ) (l : Line) → ys ≡ lineWords l → putMid (lineSize * i) (lineSize * i + lineSize - lineSize * i) ws ys ≡ putLine ws i l
+  unfolding putLine
+  part-put ys l e =
+      ap₂ (λ (x y : List ℕ). take (lineSize * i) ws ++ (x ++ y)) e (post-is (lineSize * i) (lineSize * i + lineSize) ws (omega arith))
+
+  -- the part of a card that is as a call leaves it holds a line
+  pub part-held : Held lineCount ws → LineHeld (take (lineSize * i + lineSize - lineSize * i) (drop (lineSize * i) ws))
+  part-held k = subst LineHeld (sym part-is) (record { size = words-length; words = k i h })
+
+-- ---- a line that is set
+
+held-rest : (k : ℕ) (ws : List ℕ) → Held (suc k) ws → Held k (drop lineSize ws)
+held-rest k ws h j q =
+    ap (λ (x : List ℕ). lineWords (lineIn (take lineSize x))) (further j ws) ∙ h (suc j) (omega arith) ∙ ap (take lineSize) (sym (further j ws))
+
+-- all lines, and what is behind them
+words-same : (k : ℕ) (ws : List ℕ) → Held k ws → linesWords (linesIn k ws) ++ drop (lineSize * k) ws ≡ ws
+words-same zero ws h = refl
+words-same (suc k) ws h =
+    ap₂ (λ (x : List Line) (y : List ℕ). linesWords x ++ y) (lines-first k ws) (sym (further k ws))
+    ∙ ap (λ (x : List ℕ). (x ++ linesWords (linesIn k (drop lineSize ws))) ++ drop (lineSize * k) (drop lineSize ws)) (h 0 (omega arith))
+    ∙ append-assoc (take lineSize ws) (linesWords (linesIn k (drop lineSize ws))) (drop (lineSize * k) (drop lineSize ws))
+    ∙ ap (λ (x : List ℕ). take lineSize ws ++ x) (words-same k (drop lineSize ws) (held-rest k ws h))
+    ∙ take-append-drop lineSize ws
+
+pub put-next : (i : ℕ) (ws : List ℕ) (l : Line) → putLine ws (suc i) l ≡ take lineSize ws ++ putLine (drop lineSize ws) i l
+unfolding putLine
+put-next i ws l =
+    let a : lineSize * suc i ≡ lineSize + lineSize * i = omega arith in
+    let b : lineSize * suc i + lineSize ≡ lineSize + (lineSize * i + lineSize) = omega arith in
+    ap₂ (λ (x y : ℕ). take x ws ++ (lineWords l ++ drop y ws)) a b
+    ∙ ap₂ (λ (x y : List ℕ). x ++ (lineWords l ++ y)) (take-add lineSize (lineSize * i) ws) (sym (drop-drop (lineSize * i + lineSize) lineSize ws))
+    ∙ append-assoc (take lineSize ws) (take (lineSize * i) (drop lineSize ws)) (lineWords l ++ drop (lineSize * i + lineSize) (drop lineSize ws))
+
+-- one of them set, and what is behind them
+words-set : (k i : ℕ) (ws : List ℕ) (l : Line) → i < k → Held k ws → linesWords (set (linesIn k ws) i l) ++ drop (lineSize * k) ws ≡ putLine ws i l
+unfolding putLine
+words-set zero i ws l q h = absurd (not-suc-le-zero q)
+words-set (suc k) zero ws l q h =
+    ap₂ (λ (x : List Line) (y : List ℕ). linesWords (set x 0 l) ++ y) (lines-first k ws) (sym (further k ws))
+    ∙ append-assoc (lineWords l) (linesWords (linesIn k (drop lineSize ws))) (drop (lineSize * k) (drop lineSize ws))
+    ∙ ap (λ (x : List ℕ). lineWords l ++ x) (words-same k (drop lineSize ws) (held-rest k ws h))
+words-set (suc k) (suc i) ws l q h =
+    ap₂ (λ (x : List Line) (y : List ℕ). linesWords (set x (suc i) l) ++ y) (lines-first k ws) (sym (further k ws))
+    ∙ ap (λ (x : List ℕ). (x ++ linesWords (set (linesIn k (drop lineSize ws)) i l)) ++ drop (lineSize * k) (drop lineSize ws)) (h 0 (omega arith))
+    ∙ append-assoc (take lineSize ws) (linesWords (set (linesIn k (drop lineSize ws)) i l)) (drop (lineSize * k) (drop lineSize ws))
+    ∙ ap (λ (x : List ℕ). take lineSize ws ++ x) (words-set k i (drop lineSize ws) l (omega arith) (held-rest k ws h))
+    ∙ sym (put-next i ws l)
+
+-- the lines that are read where one was put
+lines-set : (k i : ℕ) (ws : List ℕ) (l : Line) → i < k → lineSize * k ≤ length ws → Plain l → linesIn k (putLine ws i l) ≡ set (linesIn k ws) i l
+unfolding putLine
+lines-set zero i ws l q n p = absurd (not-suc-le-zero q)
+lines-set (suc k) zero ws l q n p =
+    let m = line-length l (p .full) in
+    lines-first k (lineWords l ++ drop lineSize ws)
+    ∙ ap₂ (λ (x y : List ℕ). lineIn x ∷ linesIn k y) (take-at (lineWords l) (drop lineSize ws) lineSize m) (drop-at (lineWords l) (drop lineSize ws) lineSize m)
+    ∙ ap (λ (x : Line). x ∷ linesIn k (drop lineSize ws)) (line-read l p)
+    ∙ ap (λ (x : List Line). set x 0 l) (sym (lines-first k ws))
+lines-set (suc k) (suc i) ws l q n p =
+    let m = length-take-le lineSize ws (omega arith) in
+    let r = putLine (drop lineSize ws) i l in
+    ap (linesIn (suc k)) (put-next i ws l)
+    ∙ lines-first k (take lineSize ws ++ r)
+    ∙ ap₂ (λ (x y : List ℕ). lineIn x ∷ linesIn k y) (take-at (take lineSize ws) r lineSize m) (drop-at (take lineSize ws) r lineSize m)
+    ∙ ap (λ (x : List Line). lineIn (take lineSize ws) ∷ x) (lines-set k i (drop lineSize ws) l (omega arith) (omega (arith, length-drop lineSize ws)) p)
+    ∙ ap (λ (x : List Line). set x (suc i) l) (sym (lines-first k ws))
+
+-- nothing is behind the lines
+behind : (ws : List ℕ) → length ws ≡ cardSize → drop (lineSize * lineCount) ws ≡ []
+behind ws n = ap (λ (k : ℕ). drop k ws) (sym n) ∙ drop-length ws
+
+-- The card of words in which a line was put, and the words of a card in which it is set.
+pub put-seen : (ws : List ℕ) (i : ℕ) (l : Line) → i < lineCount → length ws ≡ cardSize → Plain l → cardIn (putLine ws i l) ≡ withLineSeen (cardIn ws) i l
+unfolding cardIn
+put-seen ws i l q n p = ap (λ (x : List Line). record { lines = x }) (lines-set lineCount i ws l q (omega arith) p)
+
+pub put-words : (ws : List ℕ) (i : ℕ) (l : Line) → i < lineCount → Sound ws → cardWords (withLineSeen (cardIn ws) i l) ≡ putLine ws i l
+unfolding cardIn cardWords
+put-words ws i l q s =
+    sym (append-nil (linesWords (set (linesIn lineCount ws) i l)))
+    ∙ ap (λ (x : List ℕ). linesWords (set (linesIn lineCount ws) i l) ++ x) (sym (behind ws (s .size)))
+    ∙ words-set lineCount i ws l q (s .held)
+
+-- A fresh card is all zeros.
+pub fresh-words : cardIn (replicate cardSize 0) ≡ freshCard
+unfolding cardIn lineIn
+fresh-words = refl
+
+-- ---- one line more is held
+
+pub held-more : (i : ℕ) (ws : List ℕ) → Held i ws → lineWords (lineIn (wordsAt ws i)) ≡ wordsAt ws i → Held (i + 1) ws
+held-more i ws h e j q = by (decLt j i)
+  where
+    by : Dec (j < i) → lineWords (lineIn (wordsAt ws j)) ≡ wordsAt ws j
+    by (yes p) = h j p
+    by (no p) =
+        let z : j ≡ i = omega arith in
+        subst (λ (k : ℕ). lineWords (lineIn (wordsAt ws k)) ≡ wordsAt ws k) (sym z) e

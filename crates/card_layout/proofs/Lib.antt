@@ -1,0 +1,4 @@
+pub mod Lines
+pub mod Cards
+pub mod Back
+pub mod Several

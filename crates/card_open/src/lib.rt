@@ -1,0 +1,99 @@
+// The two opens of a line of a card: with a key of the tray, or with the command's own (document 01, "The card").
+// The caller must ensure that the card is as a call leaves it, that the line is one of its lines, and that the command is whole.
+ghost use mathlib.Core.Path.{_≡_};
+ghost use mathlib.Core.List.{List};
+ghost use Prim.Native.Nat.{ℕ, _<_, _≤_};
+ghost use lib.ListN.{length};
+ghost use Rattle.card_sizes.specs.Sizes.{lineCount, keyLength, ivLength, trayLength, ownLength};
+ghost use Rattle.command.specs.Decode.{numberOf};
+ghost use Rattle.command.specs.declared.Command.the-variants.{Tray, Own};
+ghost use Rattle.card_layout.specs.Words.{Sound};
+ghost use Rattle.card_keys.specs.Keys.{openWith};
+ghost use Rattle.card_outcome.specs.Leaves.{callOf, Gives, Does};
+use card_keys::key_code;
+use card_keys::key_part;
+use card_outcome::Outcome;
+use card_outcome::accepted;
+use card_outcome::refused;
+use card_sizes::FULL_TRAY;
+use card_sizes::KEY;
+use card_sizes::OWN;
+use card_sizes::OWN_IV;
+use card_sizes::OWN_KEY;
+use card_sizes::TRAY;
+use card_sizes::TRAY_IV;
+use ciphers::iv_of;
+use ciphers::key_of;
+use ciphers::number_of;
+use command::Cipher;
+
+// Line i is opened with a key and an IV, or refused for a byte beyond the cipher's lengths that is not 0.
+fn open_line(card: &mut [u32], i: u8, cipher: Cipher, key: &[u8], iv: &[u8], used: usize) -> Outcome
+    requires { ⌜ Sound (now card) × (i < lineCount) ⌝ }
+    requires { ⌜ length (now key) ≡ keyLength ⌝ }
+    requires { ⌜ length (now iv) ≡ ivLength ⌝ }
+    ensures { λ r. ⌜ ((text out : List ℕ) → Gives (now (card .entry)) text out (openWith i used (numberOf cipher) (now (key .entry)) (now (iv .entry))) r (now (card .exit)) out) ⌝ }
+{
+    let code = key_code(cipher, key, iv);
+    if code != 0 {
+        return refused(code);
+    }
+    let k = key_of(cipher);
+    let v = iv_of(cipher);
+    let number = number_of(cipher);
+    let state = dispatch::open(cipher, &key[..k], &iv[..v]);
+    card_layout::put_line(number, 0, &state, card, i);
+    accepted(used, 0, 0)
+}
+
+// An open with a key of the tray.
+pub fn run_tray<'a>(
+    card: &mut [u32],
+    i: u8,
+    cipher: Cipher,
+    number: u8,
+    tray: &'a [u8],
+    command: &'a [u8],
+) -> Outcome
+    requires { ⌜ Sound (now card) × (i < lineCount) ⌝ }
+    requires { ⌜ trayLength ≤ length (now command) ⌝ }
+    ensures { λ r. ⌜ ((text out : List ℕ) → Does (now (card .entry)) (Tray i cipher number) (callOf (now (command .entry)) (now (tray .entry)) text out) r (now (card .exit)) out) ⌝ }
+{
+    let mode = card_layout::mode_at(card, i);
+    if mode != 0 {
+        return refused(5);
+    }
+    if tray.len() % KEY != 0 {
+        return refused(9);
+    }
+    if tray.len() > FULL_TRAY {
+        return refused(9);
+    }
+    let at = KEY * (number as usize);
+    let end = at + KEY;
+    if tray.len() < end {
+        return refused(10);
+    }
+    let key = key_part(tray, command, false, at);
+    open_line(card, i, cipher, key, &command[TRAY_IV..TRAY], TRAY)
+}
+
+// An open with the command's own key.
+pub fn run_own<'a>(
+    card: &mut [u32],
+    i: u8,
+    cipher: Cipher,
+    tray: &'a [u8],
+    command: &'a [u8],
+) -> Outcome
+    requires { ⌜ Sound (now card) × (i < lineCount) ⌝ }
+    requires { ⌜ ownLength ≤ length (now command) ⌝ }
+    ensures { λ r. ⌜ ((text out : List ℕ) → Does (now (card .entry)) (Own i cipher) (callOf (now (command .entry)) (now (tray .entry)) text out) r (now (card .exit)) out) ⌝ }
+{
+    let mode = card_layout::mode_at(card, i);
+    if mode != 0 {
+        return refused(5);
+    }
+    let key = key_part(tray, command, true, OWN_KEY);
+    open_line(card, i, cipher, key, &command[OWN_IV..OWN], OWN)
+}

@@ -1,0 +1,151 @@
+-- What each effect gives of a card's words, row by row of the table of refusals: a row whose condition holds gives its refusal, one whose condition does not hold gives what is left, and a line
+-- put in its place is seen there.
+-- Assumes nothing.
+use mathlib.Core.Path.{_≡_, refl, ap, ap₂, sym, subst, _∙_}
+use mathlib.Core.Bool.{Bool, true, false, not}
+use mathlib.Core.List.{List, [], _∷_, _++_, map}
+use Prim.Native.Nat.{ℕ, zero, suc, _+_, _<_, _≤_}
+use native.Mathlib.Nat.{le-of-suc-le-suc, not-suc-le-zero}
+use native.Mathlib.Decide.{decLt}
+use native.Mathlib.Omega.{arith}
+use lib.Dec.{ltb, eqb}
+use lib.ListN.{length, getD, take, drop, set}
+use lib.Seq.{length-take-le}
+use borrow.Author.Tests.{lt-ltb, le-ltb, ne-eqb}
+use Rattle.words.specs.Tests.{both, pick}
+use Rattle.keystream.proofs.Laws.{xorFrom-length}
+use Rattle.ciphers.proofs.Tests.{both-left, both-right}
+use Rattle.card_sizes.specs.Sizes.{lineCount, imageLength}
+use Rattle.machine.specs.Machine.{Line, MLine, Machine, View, Seen, Shown, noView, Effect, refuse, put, crypt, park, refuseIf, idle, idleLine, based, shown, moved, byteOf, enciphered, viewOf, viewAt, isIdle, isOpen, limit, lineOk, openOk, idleOk, allOk, imageOf, back, seen, withLine, withLineSeen, perform, shows}
+use Rattle.machine.specs.Logs.{lineOn}
+use Rattle.machine.proofs.Lines.{shown-based, shown-idle}
+use Rattle.machine.proofs.Seen.{seen-back, seen-with}
+use Rattle.card_layout.specs.Words.{lineIn, wordsAt, cardIn, cardWords, putLine, Sound}
+use Rattle.card_layout.proofs.Lines.{Plain, ok-plain, idle-plain}
+use Rattle.card_layout.proofs.Cards.{line-here, card-lines, put-seen, put-words}
+use Rattle.card_outcome.specs.declared.Outcome.{Outcome}
+use Rattle.card_outcome.specs.Outcomes.{refusal, acceptance, outcomeOf}
+use Rattle.card_outcome.specs.Leaves.{outOf, wordsOf, publicOf, Leaves, Gives}
+
+-- ---- the lines of a card that is as a call leaves it
+
+line-ok : (n : ℕ) (ls : List Line) (i : ℕ) → i < n → allOk n ls ≡ true → lineOk (getD ls i idleLine) ≡ true
+line-ok zero ls i h e = absurd (not-suc-le-zero h)
+line-ok (suc n) ls i h e = go (decLt i n) (λ q. line-ok n ls i q (both-left (allOk n ls) (lineOk (getD ls n idleLine)) e))
+  where
+    go : Dec (i < n) → (i < n → lineOk (getD ls i idleLine) ≡ true) → lineOk (getD ls i idleLine) ≡ true
+    go (yes q) r = r q
+    go (no q) r =
+        let z : i ≡ n = omega arith in
+        ap (λ (k : ℕ). lineOk (getD ls k idleLine)) z ∙ both-right (allOk n ls) (lineOk (getD ls n idleLine)) e
+
+pub sound-ok : (ws : List ℕ) → Sound ws → (i : ℕ) → i < lineCount → lineOk (lineOn (cardIn ws) i) ≡ true
+sound-ok ws s i h = line-ok lineCount (cardIn ws .lines) i h (s .ok)
+
+pub sound-plain : (ws : List ℕ) → Sound ws → (i : ℕ) → i < lineCount → Plain (lineOn (cardIn ws) i)
+sound-plain ws s i h =
+    let e = line-here ws i h in
+    subst Plain (sym e) (ok-plain (wordsAt ws i) (sym (ap lineOk e) ∙ sound-ok ws s i h))
+
+-- a line that says it is open is well formed
+pub open-ok-of : (l : Line) → lineOk l ≡ true → l .mode ≡ 1 → openOk l ≡ true
+unfolding lineOk
+open-ok-of l a m = sym (ap (λ (x : ℕ). pick (eqb x 0) (idleOk l) (both (eqb x 1) (openOk l))) m) ∙ a
+
+-- ---- what the rows ask of the line that a command names
+
+module _ (ws : List ℕ) (i : ℕ) where
+  view-is : viewAt (publicOf ws) i ≡ record { mode = lineOn (cardIn ws) i .mode; cipher = lineOn (cardIn ws) i .cipher; pos = lineOn (cardIn ws) i .n }
+  unfolding publicOf viewOf based
+  view-is = go (cardIn ws .lines) i
+    where
+      go : (ls : List Line) (i : ℕ) →
+          getD (map viewOf (map based ls)) i noView ≡ record { mode = getD ls i idleLine .mode; cipher = getD ls i idleLine .cipher; pos = getD ls i idleLine .n }
+      go [] i = refl
+      go (l ∷ ls) zero = refl
+      go (l ∷ ls) (suc i) = go ls i
+
+  pub shut-is : {m : ℕ} → m ≡ lineOn (cardIn ws) i .mode → (b : Bool) → eqb m 1 ≡ b → not (isOpen (publicOf ws) i) ≡ not b
+  shut-is e b h = ap not (ap (λ (v : View). eqb (v .mode) 1) view-is ∙ ap (λ (x : ℕ). eqb x 1) (sym e) ∙ h)
+
+  pub busy-is : {m : ℕ} → m ≡ lineOn (cardIn ws) i .mode → (b : Bool) → eqb m 0 ≡ b → not (isIdle (publicOf ws) i) ≡ not b
+  busy-is e b h = ap not (ap (λ (v : View). eqb (v .mode) 0) view-is ∙ ap (λ (x : ℕ). eqb x 0) (sym e) ∙ h)
+
+  pub over-yes : {n : ℕ} → n ≡ lineOn (cardIn ws) i .n → (k : ℕ) → limit < n + k → ltb limit (viewAt (publicOf ws) i .pos + k) ≡ true
+  over-yes {n} e k h = ap (λ (v : View). ltb limit (v .pos + k)) view-is ∙ ap (λ (x : ℕ). ltb limit (x + k)) (sym e) ∙ lt-ltb limit (n + k) h
+
+  pub over-no : {n : ℕ} → n ≡ lineOn (cardIn ws) i .n → (k : ℕ) → n + k ≤ limit → ltb limit (viewAt (publicOf ws) i .pos + k) ≡ false
+  over-no {n} e k h = ap (λ (v : View). ltb limit (v .pos + k)) view-is ∙ ap (λ (x : ℕ). ltb limit (x + k)) (sym e) ∙ le-ltb limit (n + k) h
+
+-- ---- what an effect gives
+
+module _ (ws text out : List ℕ) where
+  pub given-true : (b : Bool) (k : ℕ) (e : Effect) {r : Outcome} {ws' o : List ℕ} → b ≡ true → Gives ws text out (refuse k) r ws' o → Gives ws text out (refuseIf b k e) r ws' o
+  unfolding refuseIf
+  given-true b k e h g = rw h g
+
+  pub given-false : (b : Bool) (k : ℕ) (e : Effect) {r : Outcome} {ws' o : List ℕ} → b ≡ false → Gives ws text out e r ws' o → Gives ws text out (refuseIf b k e) r ws' o
+  unfolding refuseIf
+  given-false b k e h g = rw h g
+
+  -- a refusal leaves the words and out
+  pub given-refusal : (k : ℕ) → (k ≡ 0 → ⊥) → {r : Outcome} → r ≡ refusal k → Gives ws text out (refuse k) r ws out
+  unfolding outcomeOf outOf wordsOf
+  given-refusal k f e =
+      record {
+        outcome-is = e;
+        card-is = sym (seen-back (cardIn ws));
+        words-are = ap (λ (b : Bool). pick b (cardWords (seen (back (cardIn ws)))) ws) (sym (ne-eqb k 0 f));
+        out-is = refl;
+      }
+
+  module _ (s : Sound ws) (i : ℕ) (q : i < lineCount) where
+    base-is : getD (map based (cardIn ws .lines)) i idle ≡ based (lineOn (cardIn ws) i)
+    base-is = go (cardIn ws .lines) i (omega (arith, card-lines ws))
+      where
+        go : (ls : List Line) (i : ℕ) → i < length ls → getD (map based ls) i idle ≡ based (getD ls i idleLine)
+        go [] i h = absurd (not-suc-le-zero h)
+        go (l ∷ ls) zero h = refl
+        go (l ∷ ls) (suc i) h = go ls i (le-of-suc-le-suc h)
+
+    -- words in which a line was put, as an accepted call leaves them
+    placed-seen : (m : MLine) (l : Line) → l ≡ shown m → Plain l → {ws' : List ℕ} → ws' ≡ putLine ws i l → cardIn ws' ≡ seen (withLine (back (cardIn ws)) i m)
+    placed-seen m l e p h = ap cardIn h ∙ put-seen ws i l q (s .size) p ∙ ap (withLineSeen (cardIn ws) i) e ∙ sym (seen-with (cardIn ws) i m)
+
+    placed-words : (m : MLine) (l : Line) → l ≡ shown m → {ws' : List ℕ} → ws' ≡ putLine ws i l → ws' ≡ cardWords (seen (withLine (back (cardIn ws)) i m))
+    placed-words m l e h = h ∙ sym (put-words ws i l q s) ∙ ap (λ (x : Line). cardWords (withLineSeen (cardIn ws) i x)) e ∙ ap cardWords (sym (seen-with (cardIn ws) i m))
+
+    pub given-put : (size : ℕ) (m : MLine) (l : Line) → l ≡ shown m → Plain l → {ws' : List ℕ} → ws' ≡ putLine ws i l → {r : Outcome} → r ≡ acceptance size 0 0 →
+        Gives ws text out (put i m size) r ws' out
+    unfolding outcomeOf outOf wordsOf
+    given-put size m l e p h k = record { outcome-is = k; card-is = placed-seen m l e p h; words-are = placed-words m l e h; out-is = refl }
+
+    pub given-crypt : (n size : ℕ) → n ≤ length text → (l : Line) → l ≡ shown (moved (based (lineOn (cardIn ws) i)) n) → Plain l → {ws' : List ℕ} → ws' ≡ putLine ws i l →
+        {o : List ℕ} → o ≡ enciphered (based (lineOn (cardIn ws) i)) (take n text) ++ drop n out → {r : Outcome} → r ≡ acceptance size n n → Gives ws text out (crypt i n size) r ws' o
+    unfolding outcomeOf outOf wordsOf enciphered
+    given-crypt n size f l e p h g k =
+        let m = getD (map based (cardIn ws .lines)) i idle in
+        let b : based (lineOn (cardIn ws) i) ≡ m = sym base-is in
+        let w : enciphered (based (lineOn (cardIn ws) i)) (take n text) ≡ enciphered m (take n text) = ap (λ (x : MLine). enciphered x (take n text)) b in
+        let lw : n ≡ length (enciphered m (take n text)) = sym (xorFrom-length (byteOf m) (m .pos) (take n text) ∙ length-take-le n text f) in
+        let e' = e ∙ ap (λ (x : MLine). shown (moved x n)) b in
+        record {
+          outcome-is = k ∙ ap (acceptance size n) lw;
+          card-is = placed-seen (moved m n) l e' p h;
+          words-are = placed-words (moved m n) l e' h;
+          out-is = g ∙ ap₂ (λ (x : List ℕ) (j : ℕ). x ++ drop j out) w lw;
+        }
+
+    pub given-park : (size : ℕ) → length (imageOf (lineOn (cardIn ws) i)) ≡ imageLength → {ws' : List ℕ} → ws' ≡ putLine ws i idleLine →
+        {o : List ℕ} → o ≡ imageOf (lineOn (cardIn ws) i) ++ drop imageLength out → {r : Outcome} → r ≡ acceptance size 0 imageLength → Gives ws text out (park i size) r ws' o
+    unfolding outcomeOf outOf wordsOf
+    given-park size t h g k =
+        let m = getD (map based (cardIn ws .lines)) i idle in
+        let w : imageOf (lineOn (cardIn ws) i) ≡ imageOf (shown m) = sym (ap imageOf (ap shown base-is ∙ shown-based (lineOn (cardIn ws) i))) in
+        let n : imageLength ≡ length (imageOf (shown m)) = sym t ∙ ap length w in
+        record {
+          outcome-is = k ∙ ap (acceptance size 0) n;
+          card-is = placed-seen idle idleLine (sym shown-idle) idle-plain h;
+          words-are = placed-words idle idleLine (sym shown-idle) h;
+          out-is = g ∙ ap₂ (λ (x : List ℕ) (j : ℕ). x ++ drop j out) w n;
+        }

@@ -1,0 +1,5 @@
+pub mod Laws
+pub mod Entry
+pub mod Refusals
+pub mod Every
+pub mod Frames

@@ -1,0 +1,116 @@
+-- `card_perform::perform` meets its contract: each command's own function does what its decision says.
+-- Assumes nothing.
+use Prim.Native.Nat.{ℕ, _<_, _≤_}
+use mathlib.Core.List.{List}
+use mathlib.Core.Path.{_≡_, ap, sym, subst, _∙_}
+use lib.ListN.{length}
+use Rattle.command.specs.declared.Command.{Command}
+use Rattle.command.specs.declared.Decoded.the-variants.{Run}
+use Rattle.command.specs.Decode.{decodeOf, lineOf, lengthOf}
+use Rattle.command.proofs.Reading.{Has, read-in, run-has}
+use Rattle.machine.specs.Machine.{Call}
+use Rattle.card_outcome.specs.declared.Outcome.{Outcome}
+use Rattle.card_outcome.specs.Leaves.{callOf, Does}
+use borrow.Author.Needs.{needs}
+use Rattle.card_perform.proofs.perform.Statement.{statement}
+use Rattle.card_perform.proofs.perform.Tie as tie
+
+-- what is so of a command is so of the one that it was found to be
+found : (ws : List ℕ) {k k' : Command} (a : Call) {r : Outcome} {ws' o : List ℕ} → k ≡ k' → Does ws k' a r ws' o → Does ws k a r ws' o
+found ws a {r} {ws'} {o} e h = subst (λ (x : Command). Does ws x a r ws' o) (sym e) h
+
+-- what the call lends
+abbrev lent : tie.Start → Call
+lent s = callOf (s .args .command .now) (s .args .tray .now) (s .args .«data» .now) (s .args .out .now)
+
+-- what is so of a command that was read
+has : (s : tie.Start) {k : Command} → s .args .k ≡ k → Has (s .args .command .now) k
+has s e = let m = s .args .command .now in run-has m (decodeOf m) _ (s .pre .1 ∙ ap Run e) (read-in m)
+
+run-tray-requires : tie.Need-run-tray-requires
+unfolding lengthOf
+run-tray-requires c κs =
+    let p = c .before .before in
+    let s = p .before .before .before .before .before .before .before in
+    let h = has s (p .k .given .1) in ((s .pre .0, h .line), h .whole)
+
+run-own-requires : tie.Need-run-own-requires
+unfolding lengthOf
+run-own-requires c κs =
+    let p = c .before .before in
+    let s = p .before .before .before .before .before .before .before in
+    let h = has s (p .k2 .given .1) in ((s .pre .0, h .line), h .whole)
+
+run-crypt-requires : tie.Need-run-crypt-requires
+run-crypt-requires c κs =
+    let p = c .before .before .before in
+    let s = p .before .before .before .before .before .before .before in
+    (s .pre .0, has s (p .k3 .given .1) .line)
+
+run-park-requires : tie.Need-run-park-requires
+run-park-requires c κs =
+    let p = c .before .before .before in
+    let s = p .before .before .before .before .before .before .before in
+    (s .pre .0, has s (p .k4 .given .1) .line)
+
+run-resume-requires : tie.Need-run-resume-requires
+unfolding lengthOf
+run-resume-requires c κs =
+    let p = c .before .before in
+    let s = p .before .before .before .before .before .before .before in
+    let h = has s (p .k5 .given .1) in ((s .pre .0, h .line), h .whole)
+
+run-close-requires : tie.Need-run-close-requires
+run-close-requires c κs =
+    let p = c .before .before in
+    let s = p .before .before .before .before .before .before .before in
+    (s .pre .0, has s (p .k6 .given .1) .line)
+
+returns : tie.Need-returns
+returns c =
+    let q = c .before .before in
+    let p = q .before .before .before in
+    let s = p .before .before .before .before .before .before .before in
+    found (s .args .card .now) (lent s) (p .k .given .1) (q .run-tray .ensures (s .args .«data» .now) (s .args .out .now))
+
+returns-2 : tie.Need-returns-2
+returns-2 c =
+    let q = c .before .before in
+    let p = q .before .before .before in
+    let s = p .before .before .before .before .before .before .before in
+    found (s .args .card .now) (lent s) (p .k2 .given .1) (q .run-own .ensures (s .args .«data» .now) (s .args .out .now))
+
+returns-3 : tie.Need-returns-3
+returns-3 c =
+    let q = c .before .before .before .before in
+    let p = q .before .before .before .before in
+    let s = p .before .before .before .before .before .before .before in
+    found (s .args .card .now) (lent s) (p .k3 .given .1) (q .run-crypt .ensures (s .args .command .now) (s .args .tray .now))
+
+returns-4 : tie.Need-returns-4
+returns-4 c =
+    let q = c .before .before .before .before in
+    let p = q .before .before .before .before in
+    let s = p .before .before .before .before .before .before .before in
+    found (s .args .card .now) (lent s) (p .k4 .given .1) (q .run-park .ensures (s .args .command .now) (s .args .tray .now) (s .args .«data» .now))
+
+returns-5 : tie.Need-returns-5
+returns-5 c =
+    let q = c .before .before in
+    let p = q .before .before .before in
+    let s = p .before .before .before .before .before .before .before in
+    found (s .args .card .now) (lent s) (p .k5 .given .1) (q .run-resume .ensures (s .args .tray .now) (s .args .«data» .now) (s .args .out .now))
+
+returns-6 : tie.Need-returns-6
+returns-6 c =
+    let q = c .before .before in
+    let p = q .before .before .before in
+    let s = p .before .before .before .before .before .before .before in
+    found (s .args .card .now) (lent s) (p .k6 .given .1) (q .run-close .ensures (lent s))
+
+pub perform-spec : {M : Type 1} → statement M
+perform-spec =
+    tie.close
+    (tie.spec (λ c. search needs) run-tray-requires (λ c. search needs) run-own-requires (λ c. search needs) run-crypt-requires (λ c. search needs) run-park-requires
+    (λ c. search needs) run-resume-requires (λ c. search needs) run-close-requires (λ c. search needs) returns (λ c. search needs) returns-2 (λ c. search needs) (λ c. search needs) returns-3
+    (λ c. search needs) (λ c. search needs) returns-4 (λ c. search needs) returns-5 (λ c. search needs) returns-6)

@@ -1,0 +1,77 @@
+-- The sizes of a state, a line, a card, an image, a key, an IV and the commands, and where the parts of a command and of an image begin; each follows from those above it.
+-- Assumes nothing.
+use Prim.Native.Nat.{ℕ, _+_, _*_}
+
+-- the words of a state
+abbrev pub stateWords : ℕ
+stateWords = 38
+
+-- the words before a line's state: its mode, its cipher and its position in two
+abbrev pub headWords : ℕ
+headWords = 4
+
+-- the words of a line
+abbrev pub lineSize : ℕ
+lineSize = headWords + stateWords
+
+-- the lines of a card
+abbrev pub lineCount : ℕ
+lineCount = 8
+
+-- the words of a card
+abbrev pub cardSize : ℕ
+cardSize = lineSize * lineCount
+
+-- the bytes before an image's state: its cipher and its position in eight
+abbrev pub imageState : ℕ
+imageState = 9
+
+-- the bytes of an image
+abbrev pub imageLength : ℕ
+imageLength = imageState + 4 * stateWords
+
+-- the bytes of a key and of an IV, in a tray and in a command
+abbrev pub keyLength : ℕ
+keyLength = 32
+
+abbrev pub ivLength : ℕ
+ivLength = 16
+
+-- the bytes of the longest tray: a key number is a byte
+abbrev pub fullTray : ℕ
+fullTray = 256 * keyLength
+
+-- an open from the tray: kind, line, cipher, key number, IV
+abbrev pub trayIv : ℕ
+trayIv = 4
+
+abbrev pub trayLength : ℕ
+trayLength = trayIv + ivLength
+
+-- an open with its own key: kind, line, cipher, key, IV
+abbrev pub ownKey : ℕ
+ownKey = 3
+
+abbrev pub ownIv : ℕ
+ownIv = ownKey + keyLength
+
+abbrev pub ownLength : ℕ
+ownLength = ownIv + ivLength
+
+-- a crypt: kind, line, count in two
+abbrev pub cryptLength : ℕ
+cryptLength = 4
+
+-- a park and a close: kind, line
+abbrev pub parkLength : ℕ
+parkLength = 2
+
+abbrev pub closeLength : ℕ
+closeLength = 2
+
+-- a resume: kind, line, image
+abbrev pub resumeImage : ℕ
+resumeImage = 2
+
+abbrev pub resumeLength : ℕ
+resumeLength = resumeImage + imageLength

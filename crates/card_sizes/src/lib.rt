@@ -1,0 +1,55 @@
+// The sizes of a state, a line, a card, an image, a key, an IV and the commands, and where the parts of a command and of an image begin; each follows from those above it.
+
+// The words of a state.
+pub const STATE: usize = 38;
+
+// The words before a line's state: its mode, its cipher and its position in two.
+pub const HEAD: usize = 4;
+
+// The words of a line.
+pub const LINE: usize = HEAD + STATE;
+
+// The lines of a card.
+pub const LINES: usize = 8;
+
+// The words of a card.
+pub const CARD: usize = LINE * LINES;
+
+// The bytes before an image's state: its cipher and its position in eight.
+pub const IMAGE_STATE: usize = 9;
+
+// The bytes of an image.
+pub const IMAGE: usize = IMAGE_STATE + 4 * STATE;
+
+// The bytes of a key and of an IV, in a tray and in a command.
+pub const KEY: usize = 32;
+
+pub const IV: usize = 16;
+
+// The bytes of the longest tray: a key number is a byte.
+pub const FULL_TRAY: usize = 256 * KEY;
+
+// An open from the tray: kind, line, cipher, key number, IV.
+pub const TRAY_IV: usize = 4;
+
+pub const TRAY: usize = TRAY_IV + IV;
+
+// An open with its own key: kind, line, cipher, key, IV.
+pub const OWN_KEY: usize = 3;
+
+pub const OWN_IV: usize = OWN_KEY + KEY;
+
+pub const OWN: usize = OWN_IV + IV;
+
+// A crypt: kind, line, count in two.
+pub const CRYPT: usize = 4;
+
+// A park and a close: kind, line.
+pub const PARK: usize = 2;
+
+pub const CLOSE: usize = 2;
+
+// A resume: kind, line, image.
+pub const RESUME_IMAGE: usize = 2;
+
+pub const RESUME: usize = RESUME_IMAGE + IMAGE;
