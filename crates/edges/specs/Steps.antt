@@ -1,0 +1,215 @@
+-- The edges of document 01 on whole calls: real command bytes on a card of eight lines, and for each call its code, its three counts and, where it is accepted, what the lines are after it.
+-- Assumes nothing.
+use mathlib.Core.List.{List, [], _∷_, _++_, map}
+use Prim.Native.Nat.{ℕ, zero, suc, _+_, _-_, _*_, _/_, _%_, _^_}
+use lib.ListN.{length, replicate, set}
+use Rattle.card_sizes.specs.Sizes.{stateWords, imageLength, resumeLength}
+use Rattle.machine.specs.Machine.{Line, Seen, Call, Shown, idleLine, cardStep}
+
+-- what is computed of a call, and what document 01 says
+pub record Step : Type 0 where
+  pub computed : List ℕ
+  pub stated : List ℕ
+
+infix 70 _gives_
+abbrev pub _gives_ : List ℕ → List ℕ → Step
+a gives b = record { computed = a; stated = b }
+
+-- ---- the card
+
+-- the end of a stream, and its last position
+abbrev end : ℕ
+end = 2 ^ 36
+
+abbrev last : ℕ
+last = 2 ^ 36 - 1
+
+abbrev zeros : ℕ → List ℕ
+zeros n = replicate n 0
+
+-- a state of zeros
+abbrev blank : List ℕ
+blank = zeros stateWords
+
+abbrev openLine : (cipher n : ℕ) → List ℕ → Line
+openLine c n w = record { mode = 1; cipher = c; n = n; words = w }
+
+-- ZUC's sixteen cells, each 1, and zeros behind them
+abbrev cells : List ℕ
+cells = replicate 16 1 ++ zeros 22
+
+-- lines 0, 1 and 6 are idle; 2 is open with ZUC within a unit, 3 with Rabbit at a unit's end, 4 with SNOW 2.0 before the last position, 5 with MUGI behind it, 7 with KCipher-2 at its start
+abbrev pub eight : Seen
+eight =
+    record {
+      lines =
+          idleLine ∷ idleLine ∷ openLine 1 5 cells ∷ openLine 2 16 blank ∷ openLine 3 last blank ∷ openLine 6 end blank ∷ idleLine
+          ∷ openLine 5 0 blank ∷ [];
+    }
+
+-- that card with line i another
+abbrev with : ℕ → Line → Seen
+with i l = record { lines = set (eight .lines) i l }
+
+-- ---- commands in bytes
+
+abbrev crypt : (i count : ℕ) → List ℕ
+crypt i n = 3 ∷ i ∷ n / 256 ∷ n % 256 ∷ []
+
+abbrev park : ℕ → List ℕ
+park i = 4 ∷ i ∷ []
+
+abbrev close : ℕ → List ℕ
+close i = 6 ∷ i ∷ []
+
+-- a key and an IV of so many ones, zeros behind them
+abbrev ones : (size n : ℕ) → List ℕ
+ones size n = replicate n 1 ++ zeros (size - n)
+
+abbrev fromTray : (i cipher number iv : ℕ) → List ℕ
+fromTray i c k v = 1 ∷ i ∷ c ∷ k ∷ ones 16 v
+
+abbrev own : (i cipher key iv : ℕ) → List ℕ
+own i c k v = 2 ∷ i ∷ c ∷ (ones 32 k ++ ones 16 v)
+
+-- a state's 152 bytes: words of the one byte that is given, zeros behind them
+abbrev spelled : (words byte : ℕ) → List ℕ
+spelled zero b = []
+spelled (suc k) b = 0 ∷ 0 ∷ 0 ∷ b ∷ spelled k b
+
+-- an image: the cipher, the position's fifth byte from its end and its last, and the state
+abbrev resume : (i cipher high low : ℕ) → List ℕ → List ℕ
+resume i c h l w = 5 ∷ i ∷ c ∷ 0 ∷ 0 ∷ 0 ∷ h ∷ 0 ∷ 0 ∷ 0 ∷ l ∷ w
+
+-- ---- a call, and what came of it
+
+-- lent so many zeros as tray, data and out
+abbrev pub lent : (command : List ℕ) (tray text out : ℕ) → Call
+lent c t d o = record { command = c; tray = zeros t; text = zeros d; out = zeros o }
+
+-- its code and its three counts
+unfoldable pub answer : Seen → Call → List ℕ
+answer c a = let o = cardStep c a .outcome in o .code ∷ o .used-command ∷ o .used-data ∷ length (o .written) ∷ []
+
+-- the modes and the positions of the lines after it
+unfoldable pub modes : Seen → Call → List ℕ
+modes c a = map (λ (l : Line). l .mode) (cardStep c a .card .lines)
+
+unfoldable pub positions : Seen → Call → List ℕ
+positions c a = map (λ (l : Line). l .n) (cardStep c a .card .lines)
+
+-- a refusal: its number and three zeros
+abbrev refusal : ℕ → List ℕ
+refusal k = k ∷ 0 ∷ 0 ∷ 0 ∷ []
+
+-- an accepted call: 0, the bytes used of the command and of data, the bytes written
+abbrev accepted : ℕ → ℕ → ℕ → List ℕ
+accepted c d w = 0 ∷ c ∷ d ∷ w ∷ []
+
+-- ---- the rows
+
+-- 1, 2, 1, 3, 4: how a command is read
+unfoldable pub reads : List Step
+reads =
+    answer eight (lent [] 0 0 0) gives refusal 1
+    ∷ answer eight (lent (0 ∷ []) 0 0 0) gives refusal 2
+    ∷ answer eight (lent (7 ∷ []) 0 0 0) gives refusal 2
+    ∷ answer eight (lent (3 ∷ 2 ∷ 0 ∷ []) 0 0 0) gives refusal 1
+    ∷ answer eight (lent (6 ∷ []) 0 0 0) gives refusal 1
+    -- cut short before a line over 7
+    ∷ answer eight (lent (3 ∷ 8 ∷ []) 0 0 0) gives refusal 1
+    ∷ answer eight (lent (close 8) 0 0 0) gives refusal 3
+    ∷ answer eight (lent (close 255) 0 0 0) gives refusal 3
+    -- a line over 7 before a cipher that is none
+    ∷ answer eight (lent (own 8 7 16 16) 0 0 0) gives refusal 3
+    ∷ answer eight (lent (own 0 0 16 16) 0 0 0) gives refusal 4
+    ∷ answer eight (lent (own 0 7 16 16) 0 0 0) gives refusal 4
+    -- 4 before 5
+    ∷ answer eight (lent (own 2 7 16 16) 0 0 0) gives refusal 4
+    -- what is behind the command is not used
+    ∷ answer eight (lent (close 2 ++ close 3) 0 0 0) gives accepted 2 0 0
+    ∷ []
+
+-- 5 and 6, and a close
+unfoldable pub openness : List Step
+openness =
+    answer eight (lent (fromTray 2 1 0 16) 33 0 0) gives refusal 5
+    ∷ answer eight (lent (own 7 1 17 16) 0 0 0) gives refusal 5
+    ∷ answer eight (lent (resume 2 0 0 0 (spelled stateWords 0)) 0 0 0) gives refusal 5
+    ∷ answer eight (lent (crypt 0 1) 0 0 0) gives refusal 6
+    ∷ answer eight (lent (park 1) 0 0 0) gives refusal 6
+    ∷ answer eight (lent (close 6) 0 0 0) gives refusal 6
+    ∷ modes eight (lent (close 7) 0 0 0) gives (0 ∷ 0 ∷ 1 ∷ 1 ∷ 1 ∷ 1 ∷ 0 ∷ 0 ∷ [])
+    ∷ modes eight (lent (close 6) 0 0 0) gives (0 ∷ 0 ∷ 1 ∷ 1 ∷ 1 ∷ 1 ∷ 0 ∷ 1 ∷ [])
+    ∷ []
+
+-- 9, 10, 7, and the opens that pass
+unfoldable pub opens : List Step
+opens =
+    answer eight (lent (fromTray 0 1 0 16) 33 0 0) gives refusal 9
+    ∷ answer eight (lent (fromTray 0 1 255 16) 8224 0 0) gives refusal 9
+    ∷ answer eight (lent (fromTray 0 1 0 16) 0 0 0) gives refusal 10
+    -- 10 before 7: an IV with a byte too many
+    ∷ answer eight (lent (fromTray 0 2 1 9) 32 0 0) gives refusal 10
+    ∷ answer eight (lent (fromTray 0 2 0 9) 32 0 0) gives refusal 7
+    ∷ answer eight (lent (fromTray 0 2 0 8) 32 0 0) gives accepted 20 0 0
+    ∷ answer eight (lent (fromTray 6 1 255 16) 8192 0 0) gives accepted 20 0 0
+    ∷ answer eight (lent (own 0 3 17 16) 0 0 0) gives refusal 7
+    ∷ answer eight (lent (own 0 3 16 16) 0 0 0) gives accepted 51 0 0
+    ∷ answer eight (lent (own 0 4 32 16) 0 0 0) gives accepted 51 0 0
+    ∷ answer eight (lent (own 0 2 16 9) 0 0 0) gives refusal 7
+    ∷ modes eight (lent (fromTray 6 1 0 16) 32 0 0) gives (0 ∷ 0 ∷ 1 ∷ 1 ∷ 1 ∷ 1 ∷ 1 ∷ 1 ∷ [])
+    ∷ []
+
+-- 8, and the images that pass
+unfoldable pub images : List Step
+images =
+    answer eight (lent (resume 0 0 0 0 (spelled stateWords 0)) 0 0 0) gives refusal 8
+    ∷ answer eight (lent (resume 0 7 0 0 (spelled stateWords 0)) 0 0 0) gives refusal 8
+    ∷ answer eight (lent (resume 0 6 16 1 (spelled stateWords 0)) 0 0 0) gives refusal 8
+    ∷ answer eight (lent (resume 0 6 16 0 (spelled stateWords 0)) 0 0 0) gives accepted 163 0 0
+    -- a cell of 0, and one of 2^31
+    ∷ answer eight (lent (resume 0 1 0 5 (spelled stateWords 0)) 0 0 0) gives refusal 8
+    ∷ answer eight (lent (resume 0 1 0 5 (128 ∷ 0 ∷ 0 ∷ 1 ∷ spelled 15 1 ++ spelled 22 0)) 0 0 0) gives refusal 8
+    ∷ answer eight (lent (resume 0 1 0 5 (spelled 16 1 ++ spelled 22 0)) 0 0 0) gives accepted resumeLength 0 0
+    -- padding, and Rabbit's carry
+    ∷ answer eight (lent (resume 0 1 0 5 (spelled 16 1 ++ (spelled 2 0 ++ spelled 20 1))) 0 0 0) gives refusal 8
+    ∷ answer eight (lent (resume 0 2 0 0 (spelled 16 0 ++ (2 ∷ 0 ∷ 0 ∷ 0 ∷ spelled 21 0))) 0 0 0) gives refusal 8
+    ∷ answer eight (lent (resume 0 2 0 0 (spelled 16 0 ++ (1 ∷ 0 ∷ 0 ∷ 0 ∷ spelled 21 0))) 0 0 0) gives accepted resumeLength 0 0
+    ∷ answer eight (lent (resume 0 2 0 0 (spelled 16 0 ++ (1 ∷ 0 ∷ 0 ∷ 1 ∷ spelled 21 0))) 0 0 0) gives refusal 8
+    ∷ positions eight (lent (resume 1 6 16 0 (spelled stateWords 0)) 0 0 0) gives (0 ∷ end ∷ 5 ∷ 16 ∷ last ∷ end ∷ 0 ∷ 0 ∷ [])
+    ∷ []
+
+-- 13, 11, 12, and the crypts and parks that pass
+unfoldable pub crypts : List Step
+crypts =
+    answer eight (lent (crypt 4 2) 0 0 0) gives refusal 13
+    ∷ answer eight (lent (crypt 5 1) 0 0 0) gives refusal 13
+    ∷ answer eight (lent (crypt 5 0) 0 0 0) gives accepted 4 0 0
+    ∷ answer eight (lent (crypt 2 300) 0 299 299) gives refusal 11
+    ∷ answer eight (lent (crypt 2 300) 0 300 299) gives refusal 12
+    ∷ answer eight (lent (crypt 2 7) 0 8 9) gives accepted 4 7 7
+    ∷ answer eight (lent (crypt 4 1) 0 1 1) gives accepted 4 1 1
+    ∷ positions eight (lent (crypt 4 1) 0 1 1) gives (0 ∷ 0 ∷ 5 ∷ 16 ∷ end ∷ end ∷ 0 ∷ 0 ∷ [])
+    ∷ positions eight (lent (crypt 2 7) 0 8 9) gives (0 ∷ 0 ∷ 12 ∷ 16 ∷ last ∷ end ∷ 0 ∷ 0 ∷ [])
+    ∷ answer eight (lent (park 2) 0 0 (imageLength - 1)) gives refusal 12
+    ∷ answer eight (lent (park 2) 0 0 imageLength) gives accepted 2 0 imageLength
+    ∷ modes eight (lent (park 2) 0 0 imageLength) gives (0 ∷ 0 ∷ 0 ∷ 1 ∷ 1 ∷ 1 ∷ 0 ∷ 1 ∷ [])
+    ∷ positions eight (lent (park 2) 0 0 imageLength) gives (0 ∷ 0 ∷ 0 ∷ 16 ∷ last ∷ end ∷ 0 ∷ 0 ∷ [])
+    ∷ []
+
+-- 255 before all others, whichever line it is
+unfoldable pub damage : List Step
+damage =
+    answer (with 0 (record { mode = 0; cipher = 1; n = 0; words = blank })) (lent [] 0 0 0) gives refusal 255
+    ∷ answer (with 6 (record { mode = 0; cipher = 0; n = 1; words = blank })) (lent (close 2) 0 0 0) gives refusal 255
+    ∷ answer (with 1 (record { mode = 0; cipher = 0; n = 0; words = set blank 37 1 })) (lent (close 2) 0 0 0) gives refusal 255
+    ∷ answer (with 7 (record { mode = 2; cipher = 5; n = 0; words = blank })) (lent (close 2) 0 0 0) gives refusal 255
+    ∷ answer (with 3 (openLine 7 0 blank)) (lent (close 2) 0 0 0) gives refusal 255
+    ∷ answer (with 7 (openLine 5 (end + 1) blank)) (lent (close 2) 0 0 0) gives refusal 255
+    ∷ answer (with 3 (openLine 1 0 blank)) (lent (close 2) 0 0 0) gives refusal 255
+    ∷ answer (with 3 (openLine 5 end blank)) (lent (close 2) 0 0 0) gives accepted 2 0 0
+    ∷ []
+
+unfoldable pub calls : List Step
+calls = reads ++ (openness ++ (opens ++ (images ++ (crypts ++ damage))))
