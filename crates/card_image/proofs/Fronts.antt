@@ -12,7 +12,9 @@ use lib.Seq.{take-all, sets-eq}
 use Rattle.words.specs.Strings.{bytesOf}
 use Rattle.buffer.proofs.Fronts.{Front, front-byte, front-more}
 use Rattle.card_sizes.specs.Sizes.{imageLength}
-use Rattle.machine.specs.Machine.{spelt, imageOf}
+use Rattle.machine.specs.Fields.{spelt}
+use Rattle.machine.specs.Machine.{imageOf}
+use Rattle.machine.proofs.Fields.{image-spelt}
 use Rattle.card_layout.specs.Words.{lineIn, lineWords, LineHeld}
 
 -- ---- words
@@ -73,10 +75,11 @@ module _ (ws : List ℕ) (held : LineHeld ws) (before : List ℕ) (fits : imageL
   pub front-image : (c : ℕ) → c ≡ lineIn ws .cipher → (ys : List ℕ) →
       ys ≡ spelt (drop 2 ws) ++ drop (4 * length (drop 2 ws)) (take (length (set before 0 c) - 1) (drop 1 (set before 0 c))) →
       Front (imageOf (lineIn ws)) before (putMid 1 (length (set before 0 c) - 1) (set before 0 c) ys) imageLength
-  unfolding imageOf
+  unfolding lineIn
   front-image c e ys q =
       let n : length (spelt (drop 2 ws)) ≡ 160 = spelt-length (drop 2 ws) ∙ ap (λ (k : ℕ). 4 * k) body-length in
       let rest : List ℕ = take (length (set before 0 c) - 1) (drop 1 (set before 0 c)) in
       let f = front-more (spelt (drop 2 ws)) ys 160 n fits (front-1 c) (q ∙ ap (λ (k : ℕ). spelt (drop 2 ws) ++ drop (4 * k) rest) body-length) in
-      let i : (c ∷ []) ++ spelt (drop 2 ws) ≡ imageOf (lineIn ws) = ap₂ (λ (x : ℕ) (y : List ℕ). x ∷ spelt y) e body in
+      let i : (c ∷ []) ++ spelt (drop 2 ws) ≡ imageOf (lineIn ws) =
+      ap₂ (λ (x : ℕ) (y : List ℕ). x ∷ spelt y) e body ∙ sym (image-spelt (lineIn ws) (omega arith) refl) in
       subst (λ (x : List ℕ). Front x before (putMid 1 (length (set before 0 c) - 1) (set before 0 c) ys) imageLength) i f

@@ -7,7 +7,7 @@ use Prim.Native.Nat.{ℕ}
 use lib.Dec.{eqb}
 use borrow.Author.Tests.{ne-eqb}
 use Rattle.words.specs.Tests.{pick}
-use Rattle.machine.specs.Machine.{Machine, Seen, Shown, Call, Outcome as Machine·Outcome, Effect, refuse, put, crypt, park, answer, perform, decide, public, back, shows, step, cardStep}
+use Rattle.machine.specs.Machine.{Machine, Seen, Shown, Call, Outcome as Machine·Outcome, Effect, refuse, put, crypt, park, answer, perform, decide, public, back, shows, step, cardStep, lastNumber}
 use Rattle.machine.proofs.Codes.{of-card, code-small}
 use Rattle.card_layout.specs.Words.{cardIn, cardWords}
 use Rattle.card_outcome.specs.declared.Outcome.{Outcome}

@@ -2,7 +2,7 @@
 -- Assumes nothing.
 use Prim.Native.Nat.{ℕ, _≤_}
 use lib.ListN.{length}
-use Rattle.machine.specs.Machine.{Outcome as Machine·Outcome}
+use Rattle.machine.specs.Machine.{lastNumber, Outcome as Machine·Outcome}
 use Rattle.card_outcome.specs.declared.Outcome.{Outcome}
 
 -- a refusal: three zeros
@@ -17,7 +17,7 @@ acceptance c d w = record { code = 0; «used_command» = c; «used_data» = d; w
 unfoldable pub outcomeOf : Machine·Outcome → Outcome
 outcomeOf o = record { code = o .code; «used_command» = o .used-command; «used_data» = o .used-data; written = length (o .written) }
 
--- the codes: 0 and document 01's numbers from 1 to 13, and 255 for a damaged card
+-- the codes: 0 and document 01's numbers, and 255 for a damaged card
 pub data Code : ℕ → Type 0 where
-  listed : {k : ℕ} → k ≤ 13 → Code k
+  listed : {k : ℕ} → k ≤ lastNumber → Code k
   damaged : Code 255

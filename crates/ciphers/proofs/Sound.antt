@@ -1,5 +1,5 @@
--- What the card relies on of every cipher, by number: a unit of at least one byte, states that stay fit from S(0) on, and outputs of u bytes. Each cipher's is
--- from its own laws, since its words hold a state in range exactly where they are fit.
+-- What the card relies on of every cipher, by number: a unit of at least one byte, states that stay fit from S(0) on, and outputs of u bytes. It follows once for any cipher from the laws of
+-- what it fills.
 -- Assumes nothing.
 use mathlib.Core.Path.{_≡_}
 use mathlib.Core.Bool.{Bool, true, false}
@@ -9,15 +9,19 @@ use lib.Dec.{lit<, eqb}
 use lib.ListN.{length}
 use Rattle.words.specs.Lists.{All, Byte}
 use Rattle.words.specs.Tests.{pick}
+use Rattle.zuc.specs.Range as ZR
 use Rattle.zuc.proofs.Ranges as Z
+use Rattle.rabbit.specs.Range as RR
 use Rattle.rabbit.proofs.Ranges as R
+use Rattle.snow2.specs.Range as SR
 use Rattle.snow2.proofs.Ranges as S
+use Rattle.kcipher2.specs.Range as KR
 use Rattle.kcipher2.proofs.Ranges as K
+use Rattle.mugi.specs.Range as MR
 use Rattle.mugi.proofs.Ranges as M
-use Rattle.ciphers.specs.States.{zucState, rabbitState, snow2State, kcipher2State, mugiState}
-use Rattle.ciphers.specs.Table.{Cipher, zuc, rabbit, snow128, snow256, kcipher2, mugi, cipherAt}
+use Rattle.ciphers.specs.Table.{Cipher, Interface, rowOf, zucFace, zuc, rabbitFace, rabbit, snow128Face, snow128, snow256Face, snow256, kcipher2Face, kcipher2, mugiFace, mugi, cipherAt}
 use Rattle.ciphers.specs.Fit.{Fit}
-use Rattle.ciphers.proofs.States.{zuc-fit, zuc-range, rabbit-fit, rabbit-range, snow128-fit, snow256-fit, snow2-range, kcipher2-fit, kcipher2-range, mugi-fit, mugi-range}
+use Rattle.ciphers.proofs.States.{zuc-back, zuc-fit, zuc-range, zuc-held, rabbit-back, rabbit-fit, rabbit-range, rabbit-held, snow2-back, snow128-fit, snow256-fit, snow2-range, snow2-held, kcipher2-back, kcipher2-fit, kcipher2-range, kcipher2-held, mugi-back, mugi-fit, mugi-range, mugi-held}
 
 pub record Sound (c : Cipher) : Type 0 where
   pub unit-pos : zero < c .gen .unit
@@ -26,71 +30,123 @@ pub record Sound (c : Cipher) : Type 0 where
   pub strm-length : (w : List ℕ) → length (c .gen .strm w) ≡ c .gen .unit
   pub strm-bytes : (w : List ℕ) → All Byte (c .gen .strm w)
 
-zuc-sound : Sound zuc
+-- ---- what a cipher proves of what it fills, with the range P of its states: the range is kept, outputs have u bytes, and its words hold a state in range exactly where they are fit
+
+pub record Laws {S : Type 0} (i : Interface S) (P : S → Type 0) : Type 0 where
+  pub unit-pos : zero < i .gen .unit
+  pub init-range : (k iv : List ℕ) → All Byte k → All Byte iv → P (i .init k iv)
+  pub next-range : (s : S) → P s → P (i .gen .next s)
+  pub unit-length : (s : S) → length (i .gen .strm s) ≡ i .gen .unit
+  pub unit-bytes : (s : S) → All Byte (i .gen .strm s)
+  pub read-back : (s : S) → P s → i .state (i .words s) ≡ s
+  pub fit : (s : S) → P s → Fit (rowOf i) (i .words s)
+  pub range : (w : List ℕ) → Fit (rowOf i) w → P (i .state w)
+  pub held : (w : List ℕ) → Fit (rowOf i) w → i .words (i .state w) ≡ w
+
+-- then its row is sound
+pub sound-row : {S : Type 0} (i : Interface S) (P : S → Type 0) → Laws i P → Sound (rowOf i)
+sound-row i P l =
+    record {
+      unit-pos = l .unit-pos;
+      init-fit = λ k iv hk hv. l .fit _ (l .init-range k iv hk hv);
+      next-fit = λ w h. l .fit _ (l .next-range (i .state w) (l .range w h));
+      strm-length = λ w. l .unit-length (i .state w);
+      strm-bytes = λ w. l .unit-bytes (i .state w);
+    }
+
+-- ---- each cipher
+
+pub zuc-laws : Laws zucFace ZR.InRange
 unfolding zuc
-zuc-sound =
+zuc-laws =
     record {
       unit-pos = lit< tt;
-      init-fit = λ k iv hk hv. zuc-fit _ (Z.init-range k iv hk hv);
-      next-fit = λ w h. zuc-fit _ (Z.next-range (zucState w) (zuc-range w h));
-      strm-length = λ w. Z.unit-length (zucState w);
-      strm-bytes = λ w. Z.unit-bytes (zucState w);
+      init-range = Z.init-range;
+      next-range = Z.next-range;
+      unit-length = Z.unit-length;
+      unit-bytes = Z.unit-bytes;
+      read-back = λ s r. zuc-back s (r .sixteen);
+      fit = zuc-fit;
+      range = zuc-range;
+      held = zuc-held;
     }
 
-rabbit-sound : Sound rabbit
+pub rabbit-laws : Laws rabbitFace RR.InRange
 unfolding rabbit
-rabbit-sound =
+rabbit-laws =
     record {
       unit-pos = lit< tt;
-      init-fit = λ k iv hk hv. rabbit-fit _ (R.init-range k iv hk hv);
-      next-fit = λ w h. rabbit-fit _ (R.next-range (rabbitState w) (rabbit-range w h));
-      strm-length = λ w. R.unit-length (rabbitState w);
-      strm-bytes = λ w. R.unit-bytes (rabbitState w);
+      init-range = R.init-range;
+      next-range = R.next-range;
+      unit-length = R.unit-length;
+      unit-bytes = R.unit-bytes;
+      read-back = λ s r. rabbit-back s (r .eight-x) (r .eight-c);
+      fit = rabbit-fit;
+      range = rabbit-range;
+      held = rabbit-held;
     }
 
-snow128-sound : Sound snow128
+pub snow128-laws : Laws snow128Face SR.InRange
 unfolding snow128
-snow128-sound =
+snow128-laws =
     record {
       unit-pos = lit< tt;
-      init-fit = λ k iv hk hv. snow128-fit _ (S.init128-range k iv hk hv);
-      next-fit = λ w h. snow128-fit _ (S.next-range (snow2State w) (snow2-range w (h .full) (h .words)));
-      strm-length = λ w. S.unit-length (snow2State w);
-      strm-bytes = λ w. S.unit-bytes (snow2State w);
+      init-range = S.init128-range;
+      next-range = S.next-range;
+      unit-length = S.unit-length;
+      unit-bytes = S.unit-bytes;
+      read-back = λ s r. snow2-back s (r .sixteen);
+      fit = snow128-fit;
+      range = λ w h. snow2-range w (h .full) (h .words);
+      held = λ w h. snow2-held w (h .full) (h .admitted);
     }
 
-snow256-sound : Sound snow256
+pub snow256-laws : Laws snow256Face SR.InRange
 unfolding snow256
-snow256-sound =
+snow256-laws =
     record {
       unit-pos = lit< tt;
-      init-fit = λ k iv hk hv. snow256-fit _ (S.init256-range k iv hk hv);
-      next-fit = λ w h. snow256-fit _ (S.next-range (snow2State w) (snow2-range w (h .full) (h .words)));
-      strm-length = λ w. S.unit-length (snow2State w);
-      strm-bytes = λ w. S.unit-bytes (snow2State w);
+      init-range = S.init256-range;
+      next-range = S.next-range;
+      unit-length = S.unit-length;
+      unit-bytes = S.unit-bytes;
+      read-back = λ s r. snow2-back s (r .sixteen);
+      fit = snow256-fit;
+      range = λ w h. snow2-range w (h .full) (h .words);
+      held = λ w h. snow2-held w (h .full) (h .admitted);
     }
 
-kcipher2-sound : Sound kcipher2
+pub kcipher2-laws : Laws kcipher2Face KR.InRange
 unfolding kcipher2
-kcipher2-sound =
+kcipher2-laws =
     record {
       unit-pos = lit< tt;
-      init-fit = λ k iv hk hv. kcipher2-fit _ (K.init-range k iv hk hv);
-      next-fit = λ w h. kcipher2-fit _ (K.next-range (kcipher2State w) (kcipher2-range w (h .full) (h .words)));
-      strm-length = λ w. K.unit-length (kcipher2State w);
-      strm-bytes = λ w. K.unit-bytes (kcipher2State w);
+      init-range = K.init-range;
+      next-range = K.next-range;
+      unit-length = K.unit-length;
+      unit-bytes = K.unit-bytes;
+      read-back = λ s r. kcipher2-back s (r .five) (r .eleven);
+      fit = kcipher2-fit;
+      range = λ w h. kcipher2-range w (h .full) (h .words);
+      held = λ w h. kcipher2-held w (h .full) (h .admitted);
     }
 
-mugi-sound : Sound mugi
+pub mugi-laws : Laws mugiFace MR.InRange
 unfolding mugi
-mugi-sound =
+mugi-laws =
     record {
       unit-pos = lit< tt;
-      init-fit = λ k iv hk hv. mugi-fit _ (M.init-range k iv hk hv);
-      next-fit = λ w h. mugi-fit _ (M.next-range (mugiState w) (mugi-range w (h .words)));
-      strm-length = λ w. M.unit-length (mugiState w);
-      strm-bytes = λ w. M.unit-bytes (mugiState w);
+      init-range = M.init-range;
+      next-range = M.next-range;
+      unit-length = M.unit-length;
+      unit-bytes = M.unit-bytes;
+      read-back = λ s r. mugi-back s (r .three) (r .sixteen);
+      fit = mugi-fit;
+      range = λ w h. mugi-range w (h .words);
+      held = λ w h. mugi-held w (h .full) (h .words);
     }
+
+-- ---- by number
 
 either : (b : Bool) (x y : Cipher) → Sound x → Sound y → Sound (pick b x y)
 either true x y h k = h
@@ -98,7 +154,10 @@ either false x y h k = k
 
 -- every number's cipher is sound
 pub sound : (c : ℕ) → Sound (cipherAt c)
-unfolding cipherAt
+unfolding cipherAt zuc rabbit snow128 snow256 kcipher2 mugi
 sound c =
-    either (eqb c 1) zuc _ zuc-sound
-    (either (eqb c 2) rabbit _ rabbit-sound (either (eqb c 3) snow128 _ snow128-sound (either (eqb c 4) snow256 _ snow256-sound (either (eqb c 5) kcipher2 mugi kcipher2-sound mugi-sound))))
+    either (eqb c 1) _ _ (sound-row zucFace ZR.InRange zuc-laws)
+    (either (eqb c 2) _ _ (sound-row rabbitFace RR.InRange rabbit-laws)
+    (either (eqb c 3) _ _ (sound-row snow128Face SR.InRange snow128-laws)
+    (either (eqb c 4) _ _ (sound-row snow256Face SR.InRange snow256-laws)
+    (either (eqb c 5) _ _ (sound-row kcipher2Face KR.InRange kcipher2-laws) (sound-row mugiFace MR.InRange mugi-laws)))))

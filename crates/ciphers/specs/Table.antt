@@ -7,10 +7,15 @@ use lib.Dec.{leb, eqb}
 use lib.ListN.{getD, take, drop}
 use Rattle.keystream.specs.Stream.{Gen}
 use Rattle.words.specs.Tests.{both, pick}
+use Rattle.zuc.specs.declared.Zuc.{Zuc}
 use Rattle.zuc.specs.Cipher as Z
+use Rattle.rabbit.specs.declared.Rabbit.{Rabbit}
 use Rattle.rabbit.specs.Cipher as R
+use Rattle.snow2.specs.declared.Snow2.{Snow2}
 use Rattle.snow2.specs.Cipher as S
+use Rattle.kcipher2.specs.declared.Kcipher2.{Kcipher2}
 use Rattle.kcipher2.specs.Cipher as K
+use Rattle.mugi.specs.declared.Mugi.{Mugi}
 use Rattle.mugi.specs.Cipher as M
 use Rattle.ciphers.specs.States.{zucWords, zucState, rabbitWords, rabbitState, snow2Words, snow2State, kcipher2Words, kcipher2State, mugiWords, mugiState}
 
@@ -25,6 +30,27 @@ pub record Cipher : Type 0 where
   pub init : List ℕ → List ℕ → List ℕ
   -- whether a state is one that number 8 admits
   pub admits : List ℕ → Bool
+
+-- What a cipher fills: the bytes of its key and of its IV; u, Next, Strm and S(0) over its own state S; a state as words, and the state that words hold; and what number 8 admits.
+pub record Interface (S : Type 0) : Type 0 where
+  pub key : ℕ
+  pub iv : ℕ
+  pub gen : Gen S
+  pub init : List ℕ → List ℕ → S
+  pub words : S → List ℕ
+  pub state : List ℕ → S
+  pub admits : List ℕ → Bool
+
+-- its row of the table
+abbrev pub rowOf : {S : Type 0} → Interface S → Cipher
+rowOf i =
+    record {
+      key = i .key;
+      iv = i .iv;
+      gen = record { unit = i .gen .unit; next = λ w. i .words (i .gen .next (i .state w)); strm = λ w. i .gen .strm (i .state w) };
+      init = λ k iv. i .words (i .init k iv);
+      admits = i .admits;
+    }
 
 -- a test that each element passes
 abbrev pub allOf : (ℕ → Bool) → List ℕ → Bool
@@ -49,63 +75,99 @@ abbrev pub spare : ℕ → List ℕ → Bool
 spare k w = allZero (drop k w)
 
 -- 1: ZUC. No cell is 0 or over 2^31 - 1.
+abbrev pub zucFace : Interface Zuc
+zucFace =
+    record {
+      key = 16;
+      iv = 16;
+      gen = record { unit = Z.u; next = Z.next; strm = Z.unit };
+      init = Z.init;
+      words = zucWords;
+      state = zucState;
+      admits = λ w. both (areCells (take 16 w)) (spare 18 w);
+    }
+
 unfoldable pub zuc : Cipher
-zuc = record {
-  key = 16;
-  iv = 16;
-  gen = record { unit = Z.u; next = λ w. zucWords (Z.next (zucState w)); strm = λ w. Z.unit (zucState w) };
-  init = λ k iv. zucWords (Z.init k iv);
-  admits = λ w. both (areCells (take 16 w)) (spare 18 w);
-}
+zuc = rowOf zucFace
 
 -- 2: Rabbit. The carry is 0 or 1, and nothing but zeros comes after its byte.
+abbrev pub rabbitFace : Interface Rabbit
+rabbitFace =
+    record {
+      key = 16;
+      iv = 8;
+      gen = record { unit = R.u; next = R.next; strm = R.unit };
+      init = R.init;
+      words = rabbitWords;
+      state = rabbitState;
+      admits = λ w. both (pick (eqb (getD w 16 0) 0) true (eqb (getD w 16 0) (2 ^ 24))) (spare 17 w);
+    }
+
 unfoldable pub rabbit : Cipher
-rabbit = record {
-  key = 16;
-  iv = 8;
-  gen = record { unit = R.u; next = λ w. rabbitWords (R.next (rabbitState w)); strm = λ w. R.unit (rabbitState w) };
-  init = λ k iv. rabbitWords (R.init k iv);
-  admits = λ w. both (pick (eqb (getD w 16 0) 0) true (eqb (getD w 16 0) (2 ^ 24))) (spare 17 w);
-}
+rabbit = rowOf rabbitFace
 
 -- 3 and 4: SNOW 2.0, with a key of 16 bytes and of 32
+abbrev pub snow128Face : Interface Snow2
+snow128Face =
+    record {
+      key = 16;
+      iv = 16;
+      gen = record { unit = S.u; next = S.next; strm = S.unit };
+      init = S.init128;
+      words = snow2Words;
+      state = snow2State;
+      admits = spare 18;
+    }
+
 unfoldable pub snow128 : Cipher
-snow128 = record {
-  key = 16;
-  iv = 16;
-  gen = record { unit = S.u; next = λ w. snow2Words (S.next (snow2State w)); strm = λ w. S.unit (snow2State w) };
-  init = λ k iv. snow2Words (S.init128 k iv);
-  admits = spare 18;
-}
+snow128 = rowOf snow128Face
+
+abbrev pub snow256Face : Interface Snow2
+snow256Face =
+    record {
+      key = 32;
+      iv = 16;
+      gen = record { unit = S.u; next = S.next; strm = S.unit };
+      init = S.init256;
+      words = snow2Words;
+      state = snow2State;
+      admits = spare 18;
+    }
 
 unfoldable pub snow256 : Cipher
-snow256 = record {
-  key = 32;
-  iv = 16;
-  gen = record { unit = S.u; next = λ w. snow2Words (S.next (snow2State w)); strm = λ w. S.unit (snow2State w) };
-  init = λ k iv. snow2Words (S.init256 k iv);
-  admits = spare 18;
-}
+snow256 = rowOf snow256Face
 
 -- 5: KCipher-2
+abbrev pub kcipher2Face : Interface Kcipher2
+kcipher2Face =
+    record {
+      key = 16;
+      iv = 16;
+      gen = record { unit = K.u; next = K.next; strm = K.unit };
+      init = K.init;
+      words = kcipher2Words;
+      state = kcipher2State;
+      admits = spare 20;
+    }
+
 unfoldable pub kcipher2 : Cipher
-kcipher2 = record {
-  key = 16;
-  iv = 16;
-  gen = record { unit = K.u; next = λ w. kcipher2Words (K.next (kcipher2State w)); strm = λ w. K.unit (kcipher2State w) };
-  init = λ k iv. kcipher2Words (K.init k iv);
-  admits = spare 20;
-}
+kcipher2 = rowOf kcipher2Face
 
 -- 6: MUGI, whose state has all the words
+abbrev pub mugiFace : Interface Mugi
+mugiFace =
+    record {
+      key = 16;
+      iv = 16;
+      gen = record { unit = M.u; next = M.next; strm = M.unit };
+      init = M.init;
+      words = mugiWords;
+      state = mugiState;
+      admits = λ w. true;
+    }
+
 unfoldable pub mugi : Cipher
-mugi = record {
-  key = 16;
-  iv = 16;
-  gen = record { unit = M.u; next = λ w. mugiWords (M.next (mugiState w)); strm = λ w. M.unit (mugiState w) };
-  init = λ k iv. mugiWords (M.init k iv);
-  admits = λ w. true;
-}
+mugi = rowOf mugiFace
 
 -- the numbers that 4 and 8 admit
 abbrev pub isCipher : ℕ → Bool

@@ -3,6 +3,7 @@
 ghost use mathlib.Core.Path.{_≡_};
 ghost use Rattle.command.specs.Decode.{numberOf};
 ghost use Rattle.ciphers.specs.Table.{cipherAt};
+ghost use Rattle.ciphers.specs.Columns.{columnsBy, columnsOf};
 use command::Cipher;
 
 // The number of a cipher.
@@ -19,44 +20,55 @@ pub fn number_of(c: Cipher) -> u8
     }
 }
 
+// What is read of a cipher's row, in bytes: its key, its IV and its unit.
+pub struct Columns {
+    pub key: usize,
+    pub iv: usize,
+    pub unit: usize,
+}
+
+fn lengths(key: usize, iv: usize, unit: usize) -> Columns
+    ensures { λ r. ⌜ r ≡ columnsBy key iv unit ⌝ }
+{
+    Columns { key, iv, unit }
+}
+
+// The columns of a number's row; where no cipher has the number, the last row's.
+fn row(c: u8) -> Columns
+    ensures { λ r. ⌜ r ≡ columnsOf (cipherAt c) ⌝ }
+{
+    match c {
+        1 => lengths(16, 16, 4),
+        2 => lengths(16, 8, 16),
+        3 => lengths(16, 16, 4),
+        4 => lengths(32, 16, 4),
+        5 => lengths(16, 16, 8),
+        _ => lengths(16, 16, 8),
+    }
+}
+
 // The bytes of a cipher's key.
 pub fn key_of(c: Cipher) -> usize
     ensures { λ r. ⌜ r ≡ cipherAt (numberOf c) .key ⌝ }
 {
-    match c {
-        Cipher::Zuc => 16,
-        Cipher::Rabbit => 16,
-        Cipher::Snow128 => 16,
-        Cipher::Snow256 => 32,
-        Cipher::Kcipher2 => 16,
-        Cipher::Mugi => 16,
-    }
+    let number = number_of(c);
+    let r = row(number);
+    r.key
 }
 
 // The bytes of a cipher's IV.
 pub fn iv_of(c: Cipher) -> usize
     ensures { λ r. ⌜ r ≡ cipherAt (numberOf c) .iv ⌝ }
 {
-    match c {
-        Cipher::Zuc => 16,
-        Cipher::Rabbit => 8,
-        Cipher::Snow128 => 16,
-        Cipher::Snow256 => 16,
-        Cipher::Kcipher2 => 16,
-        Cipher::Mugi => 16,
-    }
+    let number = number_of(c);
+    let r = row(number);
+    r.iv
 }
 
-// The unit of a cipher, in bytes.
+// The unit of the cipher of a number.
 pub fn unit_of(c: u8) -> usize
     ensures { λ r. ⌜ r ≡ cipherAt c .gen .unit ⌝ }
 {
-    match c {
-        1 => 4,
-        2 => 16,
-        3 => 4,
-        4 => 4,
-        5 => 8,
-        _ => 8,
-    }
+    let r = row(c);
+    r.unit
 }

@@ -1,12 +1,13 @@
 -- How a command is read: its kind with its operands, or the first of the numbers 1, 2, 1, 3, 4 that applies (document 01, "The card" and "Who meets which number").
 -- Assumes nothing.
 use mathlib.Core.Bool.{Bool}
-use mathlib.Core.List.{List}
+use mathlib.Core.List.{List, [], _∷_}
 use Prim.Native.Nat.{ℕ, _+_, _*_}
 use lib.Dec.{ltb, eqb}
 use lib.ListN.{length, getD}
 use Rattle.words.specs.Tests.{pick}
-use Rattle.card_sizes.specs.Sizes.{trayLength, ownLength, cryptLength, parkLength, resumeLength, closeLength}
+use Rattle.card_sizes.specs.Sizes.{trayIv, trayLength, ownIv, ownLength, cryptLength, parkLength, resumeLength, closeLength}
+use Rattle.command.specs.Rows.{Row, _when_, unless}
 use Rattle.command.specs.declared.Cipher.{Cipher}
 use Rattle.command.specs.declared.Cipher.the-variants.{Zuc, Rabbit, Snow128, Snow256, Kcipher2, Mugi}
 use Rattle.command.specs.declared.CipherRead.{CipherRead}
@@ -31,12 +32,6 @@ numberOf Snow256 = 4
 numberOf Kcipher2 = 5
 numberOf Mugi = 6
 
--- the length of a command by its first byte, and 0 where that is not 01 to 06
-unfoldable pub lengthOf : ℕ → ℕ
-lengthOf k =
-    pick (eqb k 1) trayLength
-    (pick (eqb k 2) ownLength (pick (eqb k 3) cryptLength (pick (eqb k 4) parkLength (pick (eqb k 5) resumeLength (pick (eqb k 6) closeLength 0)))))
-
 -- number 4: a cipher that is not 1 to 6
 abbrev pub withCipher : CipherRead → (Cipher → Decoded) → Decoded
 withCipher (Is c) f = f c
@@ -50,48 +45,86 @@ openOf k s = withCipher (readOf (getD s 2 0)) (λ c. pick (eqb k 1) (Run (Tray (
 unfoldable pub cryptOf : List ℕ → Decoded
 cryptOf s = Run (Crypt (getD s 1 0) (getD s 2 0 * 256 + getD s 3 0))
 
--- a row of the refusals: the first whose condition holds gives its number
+-- ---- the commands: first byte, length, and what the bytes say; the second byte is the line
+
+pub record Form : Type 0 where
+  pub kind : ℕ
+  pub size : ℕ
+  pub read : List ℕ → Decoded
+
+abbrev pub form : ℕ → ℕ → (List ℕ → Decoded) → Form
+form k n f = record { kind = k; size = n; read = f }
+
+abbrev pub forms : List Form
+forms =
+    form 1 trayLength (openOf 1)
+    ∷ form 2 ownLength (openOf 2)
+    ∷ form 3 cryptLength cryptOf
+    ∷ form 4 parkLength (λ s. Run (Park (getD s 1 0)))
+    ∷ form 5 resumeLength (λ s. Run (Resume (getD s 1 0)))
+    ∷ form 6 closeLength (λ s. Run (Close (getD s 1 0)))
+    ∷ []
+
+abbrev pub sizeIn : List Form → ℕ → ℕ
+sizeIn [] k = 0
+sizeIn (f ∷ fs) k = pick (eqb k (f .kind)) (f .size) (sizeIn fs k)
+
+abbrev pub readIn : List Form → ℕ → List ℕ → Decoded
+readIn [] k s = Refused 2
+readIn (f ∷ fs) k s = pick (eqb k (f .kind)) (f .read s) (readIn fs k s)
+
+-- the length of a command by its first byte, and 0 where that is not 01 to 06
+unfoldable pub lengthOf : ℕ → ℕ
+lengthOf k = sizeIn forms k
+
+unfoldable pub commandOf : ℕ → List ℕ → Decoded
+commandOf k s = readIn forms k s
+
+-- ---- the refusals of a command that is not read, in document 01's order; 4 comes with the cipher
+
 abbrev pub refusedIf : Bool → ℕ → Decoded → Decoded
 refusedIf b k d = pick b (Refused k) d
 
--- number 3: a line over 7
-unfoldable pub commandOf : ℕ → List ℕ → Decoded
-commandOf k s =
-    refusedIf (ltb 7 (getD s 1 0)) 3
-    (pick (eqb k 1) (openOf k s)
-    (pick (eqb k 2) (openOf k s)
-    (pick (eqb k 3) (cryptOf s)
-    (pick (eqb k 4) (Run (Park (getD s 1 0)))
-    (pick (eqb k 5) (Run (Resume (getD s 1 0)))
-    (Run (Close (getD s 1 0))))))))
+abbrev pub unread : List ℕ → List Row
+unread s =
+    -- empty
+    (1 when eqb (length s) 0)
+    -- unknown
+    ∷ (2 when eqb (lengthOf (getD s 0 0)) 0)
+    -- cut short
+    ∷ (1 when ltb (length s) (lengthOf (getD s 0 0)))
+    -- a line over 7
+    ∷ (3 when ltb 7 (getD s 1 0))
+    ∷ []
 
--- numbers 1 for empty, 2, and 1 for cut short
 unfoldable pub decodeOf : List ℕ → Decoded
-decodeOf s =
-    refusedIf (eqb (length s) 0) 1
-    (refusedIf (eqb (lengthOf (getD s 0 0)) 0) 2
-    (refusedIf (ltb (length s) (lengthOf (getD s 0 0))) 1
-    (commandOf (getD s 0 0) s)))
+decodeOf s = unless refusedIf (unread s) (commandOf (getD s 0 0) s)
 
--- the line that a command names, its first byte, and its length
+-- ---- operands
+
+-- The operands of a command: its first byte, its line and, 0 where it has none, the number of the cipher that it names, the number of its key in the tray, where its IV stands, and its count.
+pub record Operands : Type 0 where
+  pub kind : ℕ
+  pub line : ℕ
+  pub cipher : ℕ
+  pub key : ℕ
+  pub iv : ℕ
+  pub count : ℕ
+
+abbrev pub operandsOf : Command → Operands
+operandsOf (Tray i c k) = record { kind = 1; line = i; cipher = numberOf c; key = k; iv = trayIv; count = 0 }
+operandsOf (Own i c) = record { kind = 2; line = i; cipher = numberOf c; key = 0; iv = ownIv; count = 0 }
+operandsOf (Crypt i n) = record { kind = 3; line = i; cipher = 0; key = 0; iv = 0; count = n }
+operandsOf (Park i) = record { kind = 4; line = i; cipher = 0; key = 0; iv = 0; count = 0 }
+operandsOf (Resume i) = record { kind = 5; line = i; cipher = 0; key = 0; iv = 0; count = 0 }
+operandsOf (Close i) = record { kind = 6; line = i; cipher = 0; key = 0; iv = 0; count = 0 }
+
+-- the line that a command names, and its length
 abbrev pub lineOf : Command → ℕ
-lineOf (Tray i c k) = i
-lineOf (Own i c) = i
-lineOf (Crypt i n) = i
-lineOf (Park i) = i
-lineOf (Resume i) = i
-lineOf (Close i) = i
-
-abbrev pub kindOf : Command → ℕ
-kindOf (Tray i c k) = 1
-kindOf (Own i c) = 2
-kindOf (Crypt i n) = 3
-kindOf (Park i) = 4
-kindOf (Resume i) = 5
-kindOf (Close i) = 6
+lineOf c = operandsOf c .line
 
 abbrev pub sizeOf : Command → ℕ
-sizeOf c = lengthOf (kindOf c)
+sizeOf c = lengthOf (operandsOf c .kind)
 
 -- the number of a command that is not read
 abbrev pub refusalOf : Decoded → ℕ

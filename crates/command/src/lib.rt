@@ -105,22 +105,20 @@ fn read_crypt(s: &[u8]) -> Decoded
     Decoded::Run(Command::Crypt { line, count })
 }
 
-// A command that is whole, of a known kind.
+// A command that is whole, by its kind.
 fn read_command(kind: u8, s: &[u8]) -> Decoded
     requires { ⌜ (2 ≤ length (now s)) × (lengthOf kind ≤ length (now s)) ⌝ }
     ensures { λ r. ⌜ r ≡ commandOf kind (now (s .entry)) ⌝ }
 {
     let line = s[1];
-    if line > 7 {
-        return Decoded::Refused(3);
-    }
     match kind {
         1 => read_open(kind, s),
         2 => read_open(kind, s),
         3 => read_crypt(s),
         4 => Decoded::Run(Command::Park { line }),
         5 => Decoded::Run(Command::Resume { line }),
-        _ => Decoded::Run(Command::Close { line }),
+        6 => Decoded::Run(Command::Close { line }),
+        _ => Decoded::Refused(2),
     }
 }
 
@@ -138,6 +136,10 @@ pub fn decode(command: &[u8]) -> Decoded
     }
     if command.len() < need {
         return Decoded::Refused(1);
+    }
+    let line = command[1];
+    if line > 7 {
+        return Decoded::Refused(3);
     }
     read_command(kind, command)
 }

@@ -1,5 +1,5 @@
 -- A cipher's crypt over its struct is its crypt over a line's words: a state's words hold it, and the words' Next and Strm are the state's. Said once for any two
--- generators, and then of each cipher.
+-- generators, and of any cipher by what it fills.
 -- Assumes nothing.
 use mathlib.Core.Path.{_≡_, refl, ap, sym, subst, _∙_}
 use mathlib.Core.List.{List, _++_}
@@ -9,35 +9,28 @@ use lib.ListN.{length, drop}
 use Rattle.keystream.specs.Stream.{Gen, stateAt, byteAt, xorFrom}
 use Rattle.keystream.proofs.Laws.{xorFrom-agree}
 use Rattle.keystream.proofs.Parts.{stateAt-along, byteAt-along}
-use Rattle.zuc.specs.Cipher as Z
 use Rattle.zuc.specs.Range as ZR
 use Rattle.zuc.specs.declared.Zuc.{Zuc}
-use Rattle.zuc.proofs.Ranges as ZL
 use Rattle.rabbit.specs.Cipher as R
 use Rattle.rabbit.specs.Range as RR
 use Rattle.rabbit.specs.declared.Rabbit.{Rabbit}
 use Rattle.rabbit.proofs.Ranges as RL
-use Rattle.snow2.specs.Cipher as S
 use Rattle.snow2.specs.Range as SR
 use Rattle.snow2.specs.declared.Snow2.{Snow2}
-use Rattle.snow2.proofs.Ranges as SL
-use Rattle.kcipher2.specs.Cipher as K
 use Rattle.kcipher2.specs.Range as KR
 use Rattle.kcipher2.specs.declared.Kcipher2.{Kcipher2}
-use Rattle.kcipher2.proofs.Ranges as KL
-use Rattle.mugi.specs.Cipher as M
 use Rattle.mugi.specs.Range as MR
 use Rattle.mugi.specs.declared.Mugi.{Mugi}
-use Rattle.mugi.proofs.Ranges as ML
 use Rattle.crypt_zuc.specs.Generator.{gen as zucGen}
 use Rattle.rabbit.specs.Generator.{gen as rabbitGen}
 use Rattle.crypt_snow2.specs.Generator.{gen as snow2Gen}
 use Rattle.kcipher2.specs.Generator.{gen as kcipher2Gen}
 use Rattle.crypt_mugi.specs.Generator.{gen as mugiGen}
 use Rattle.ciphers.specs.States.{zucWords, zucState, rabbitWords, rabbitState, snow2Words, snow2State, kcipher2Words, kcipher2State, mugiWords, mugiState}
-use Rattle.ciphers.specs.Table.{zuc, rabbit, snow128, kcipher2, mugi}
+use Rattle.ciphers.specs.Table.{Interface, rowOf, zucFace, zuc, rabbitFace, rabbit, snow128Face, snow128, kcipher2Face, kcipher2, mugiFace, mugi}
 use Rattle.ciphers.specs.Fit.{Fit}
-use Rattle.ciphers.proofs.States.{zuc-back, zuc-range, zuc-held, rabbit-back, rabbit-range, rabbit-held, snow2-back, snow2-range, snow2-held, kcipher2-back, kcipher2-range, kcipher2-held, mugi-back, mugi-range, mugi-held}
+use Rattle.ciphers.proofs.States.{rabbit-range}
+use Rattle.ciphers.proofs.Sound.{Laws, zuc-laws, rabbit-laws, snow128-laws, kcipher2-laws, mugi-laws}
 
 -- what a crypt gives, as two equations
 abbrev pub Gives : {S : Type 0} → Gen S → S → ℕ → List ℕ → List ℕ → S → List ℕ → Type 0
@@ -62,47 +55,40 @@ module _ {S T : Type 0} (g : Gen S) (h : Gen T) (f : S → T) (P : S → Type 0)
             (λ i _. byteAt-along g h f P keeps same-unit same-next same-strm s 0 (skip + i) p ∙ ap (λ (x : T). byteAt h x 0 (skip + i)) e)),
       )
 
+-- a cipher's crypt over its state is its row's over the words
+module _ {S : Type 0} (i : Interface S) (P : S → Type 0) (l : Laws i P) where
+  row-along : (skip : ℕ) (text out : List ℕ) {w w' : List ℕ} {s s' : S} {out' : List ℕ} → Fit (rowOf i) w → s ≡ i .state w → w' ≡ i .words s'
+      → Gives (i .gen) s skip text out s' out' → Gives (rowOf i .gen) w skip text out w' out'
+  row-along skip text out {w} h q q' d =
+      gives-along (i .gen) (rowOf i .gen) (i .words) P (l .next-range) refl (λ s r. ap (λ (x : S). i .words (i .gen .next x)) (sym (l .read-back s r)))
+      (λ s r. ap (i .gen .strm) (sym (l .read-back s r))) skip text out (l .range w h) (l .held w h) q q' d
+
 -- ---- each cipher
 
 pub zuc-along : (skip : ℕ) (text out : List ℕ) {w w' : List ℕ} {s s' : Zuc} {out' : List ℕ} → Fit zuc w → s ≡ zucState w → w' ≡ zucWords s'
     → Gives zucGen s skip text out s' out' → Gives (zuc .gen) w skip text out w' out'
 unfolding zuc zucGen
-zuc-along skip text out {w} h q q' d =
-    gives-along zucGen (zuc .gen) zucWords ZR.InRange ZL.next-range refl
-    (λ s r. ap (λ (x : Zuc). zucWords (Z.next x)) (sym (zuc-back s (r .sixteen)))) (λ s r. ap Z.unit (sym (zuc-back s (r .sixteen)))) skip text out
-    (zuc-range w h) (zuc-held w h) q q' d
+zuc-along = row-along zucFace ZR.InRange zuc-laws
 
 pub rabbit-along : (skip : ℕ) (text out : List ℕ) {w w' : List ℕ} {s s' : Rabbit} {out' : List ℕ} → Fit rabbit w → s ≡ rabbitState w → w' ≡ rabbitWords s'
     → Gives rabbitGen s skip text out s' out' → Gives (rabbit .gen) w skip text out w' out'
 unfolding rabbit rabbitGen
-rabbit-along skip text out {w} h q q' d =
-    gives-along rabbitGen (rabbit .gen) rabbitWords RR.InRange RL.next-range refl
-    (λ s r. ap (λ (x : Rabbit). rabbitWords (R.next x)) (sym (rabbit-back s (r .eight-x) (r .eight-c)))) (λ s r. ap R.unit (sym (rabbit-back s (r .eight-x) (r .eight-c)))) skip text out
-    (rabbit-range w h) (rabbit-held w h) q q' d
+rabbit-along = row-along rabbitFace RR.InRange rabbit-laws
 
 pub snow2-along : (skip : ℕ) (text out : List ℕ) {w w' : List ℕ} {s s' : Snow2} {out' : List ℕ} → Fit snow128 w → s ≡ snow2State w → w' ≡ snow2Words s'
     → Gives snow2Gen s skip text out s' out' → Gives (snow128 .gen) w skip text out w' out'
 unfolding snow128 snow2Gen
-snow2-along skip text out {w} h q q' d =
-    gives-along snow2Gen (snow128 .gen) snow2Words SR.InRange SL.next-range refl
-    (λ s r. ap (λ (x : Snow2). snow2Words (S.next x)) (sym (snow2-back s (r .sixteen)))) (λ s r. ap S.unit (sym (snow2-back s (r .sixteen)))) skip text out
-    (snow2-range w (h .full) (h .words)) (snow2-held w (h .full) (h .admitted)) q q' d
+snow2-along = row-along snow128Face SR.InRange snow128-laws
 
 pub kcipher2-along : (skip : ℕ) (text out : List ℕ) {w w' : List ℕ} {s s' : Kcipher2} {out' : List ℕ} → Fit kcipher2 w → s ≡ kcipher2State w → w' ≡ kcipher2Words s'
     → Gives kcipher2Gen s skip text out s' out' → Gives (kcipher2 .gen) w skip text out w' out'
 unfolding kcipher2 kcipher2Gen
-kcipher2-along skip text out {w} h q q' d =
-    gives-along kcipher2Gen (kcipher2 .gen) kcipher2Words KR.InRange KL.next-range refl
-    (λ s r. ap (λ (x : Kcipher2). kcipher2Words (K.next x)) (sym (kcipher2-back s (r .five) (r .eleven)))) (λ s r. ap K.unit (sym (kcipher2-back s (r .five) (r .eleven)))) skip text out
-    (kcipher2-range w (h .full) (h .words)) (kcipher2-held w (h .full) (h .admitted)) q q' d
+kcipher2-along = row-along kcipher2Face KR.InRange kcipher2-laws
 
 pub mugi-along : (skip : ℕ) (text out : List ℕ) {w w' : List ℕ} {s s' : Mugi} {out' : List ℕ} → Fit mugi w → s ≡ mugiState w → w' ≡ mugiWords s'
     → Gives mugiGen s skip text out s' out' → Gives (mugi .gen) w skip text out w' out'
 unfolding mugi mugiGen
-mugi-along skip text out {w} h q q' d =
-    gives-along mugiGen (mugi .gen) mugiWords MR.InRange ML.next-range refl
-    (λ s r. ap (λ (x : Mugi). mugiWords (M.next x)) (sym (mugi-back s (r .three) (r .sixteen)))) (λ s r. ap M.unit (sym (mugi-back s (r .three) (r .sixteen)))) skip text out
-    (mugi-range w (h .words)) (mugi-held w (h .full) (h .words)) q q' d
+mugi-along = row-along mugiFace MR.InRange mugi-laws
 
 -- the carry after a crypt is 0 or 1
 pub rabbit-carry : (skip : ℕ) (text out : List ℕ) {w : List ℕ} {s s' : Rabbit} {out' : List ℕ} → Fit rabbit w → s ≡ rabbitState w → Gives rabbitGen s skip text out s' out' → s' .b ≤ 1

@@ -13,11 +13,12 @@ use Rattle.command.specs.declared.Command.{Command}
 use Rattle.command.specs.declared.Command.the-variants.{Tray, Own, Crypt, Park, Resume, Close}
 use Rattle.command.specs.declared.Decoded.{Decoded}
 use Rattle.command.specs.declared.Decoded.the-variants.{Run, Refused}
-use Rattle.command.specs.Decode.{decodeOf}
-use Rattle.command.proofs.Reading.{ReadIn, run-in, Has, read-in}
+use Rattle.command.specs.Decode.{decodeOf, lineOf}
+use Rattle.command.proofs.Rows.{not-zero}
+use Rattle.command.proofs.Reading.{ReadIn, refused-in, run-in, Has, read-in}
 use Rattle.machine.specs.Machine.{Machine, lineAt, idle, shown, based, opened, enciphered, imageOf, imageLine, Call, Effect, refuse, put, crypt, park, public, effectOf, ofDecoded, decide, perform, step, shows}
 use Rattle.machine.specs.Logs.{Made, madeOf, Did, did-nothing, did-open, did-crypt, did-park, did-resume, did-close, doneBy, did}
-use Rattle.machine.proofs.Rows.{Passed, by-rows}
+use Rattle.machine.proofs.Rows.{Passed, passed, decided-by}
 use Rattle.machine.proofs.Simulation.{is-open}
 
 -- the line that a call names
@@ -49,7 +50,7 @@ module _ (m : Machine) (a : Call) where
   explains-refusal : (d : Decoded) (k : ℕ) → eqb k 0 ≡ false → Explains d (refuse k)
   explains-refusal d k z = record { is = rw z was-refused }
 
-  names : (c : Command) → Has (a .command) c → Names a (Rattle.command.specs.Decode.lineOf c)
+  names : (c : Command) → Has (a .command) c → Names a (lineOf c)
   names c h = record { below = h .line; named = h .named }
 
   explains-effect : (c : Command) → Has (a .command) c → Passed c (public m) a → Explains (Run c) (effectOf c a)
@@ -59,24 +60,20 @@ module _ (m : Machine) (a : Call) where
       record {
         is =
             subst (λ (y : List ℕ). Explained m a (effectOf (Crypt i n) a) (did-crypt i (take n (a .text)) y)) (sym (first (enciphered (lineAt m i) (take n (a .text)))))
-            (was-crypt (names (Crypt i n) h) (ltb-false (length (a .text)) n (p .row11)));
+            (was-crypt (names (Crypt i n) h) (ltb-false (length (a .text)) n (passed 11 p)));
       }
   explains-effect (Park i) h p =
       record {
         is =
             subst (λ (y : List ℕ). Explained m a (effectOf (Park i) a) (did-park i y)) (sym (first (imageOf (shown (lineAt m i)))))
-            (was-park (names (Park i) h) (is-open m a i (p .row6)));
+            (was-park (names (Park i) h) (is-open m a i (passed 6 p)));
       }
   explains-effect (Resume i) h p = record { is = was-resume (names (Resume i) h) }
   explains-effect (Close i) h p = record { is = was-close (names (Close i) h) }
 
   explains-decoded : (d : Decoded) → ReadIn (a .command) d → Explains d (ofDecoded d (public m) a)
-  explains-decoded (Refused k) r = record { is = either (eqb k 0) }
-    where
-      either : (b : Bool) → Explained m a (refuse k) (pick b did-nothing did-nothing)
-      either true = was-refused
-      either false = was-refused
-  explains-decoded (Run c) (run-in h) = by-rows (Explains (Run c)) (explains-refusal (Run c)) c (public m) a (explains-effect c h)
+  explains-decoded (Refused k) (refused-in n) = explains-refusal (Refused k) k (not-zero k n)
+  explains-decoded (Run c) (run-in h) = decided-by (Explains (Run c)) (λ k z. explains-refusal (Run c) k (not-zero k z)) c (public m) a (explains-effect c h)
 
   pub explained : Explained m a (decide (public m) a) (did (madeOf a (shows (step m a))))
   unfolding step decide

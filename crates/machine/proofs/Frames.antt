@@ -12,7 +12,8 @@ use Rattle.command.specs.declared.Decoded.the-variants.{Run}
 use Rattle.command.specs.Decode.{decodeOf}
 use Rattle.machine.specs.Machine.{Line, MLine, Machine, Seen, Call, Effect, idle, idleLine, based, enciphered, lineAt, back, public, decided, decide, perform, step, cardStep}
 use Rattle.machine.specs.Logs.{lineOn}
-use Rattle.machine.proofs.Rows.{by-rows}
+use Rattle.command.proofs.Rows.{not-zero}
+use Rattle.machine.proofs.Rows.{decided-by}
 use Rattle.machine.proofs.Codes.{of-card}
 use Rattle.machine.proofs.Deciphers.{deciphered}
 
@@ -33,7 +34,7 @@ module _ (m : Machine) (a : Call) (i n : ℕ) where
 
   crypted : Accepts (decided (Crypt i n) (public m) a)
   crypted =
-      by-rows Accepts (λ k z e. absurd (eqb-false k 0 z e)) (Crypt i n) (public m) a
+      decided-by Accepts (λ k z e. absurd (eqb-false k 0 (not-zero k z) e)) (Crypt i n) (public m) a
       (λ p e. refl)
 
   stepped : decodeOf (a .command) ≡ Run (Crypt i n) → step m a .outcome .code ≡ 0 → step m a .outcome .written ≡ enciphered (lineAt m i) (take n (a .text))

@@ -1,7 +1,7 @@
 -- What holds of every line that a list of calls leads to: it is idle, or it has a known cipher, a position of at most 2^36 that is not behind its base, and a base state that fits the cipher.
 -- Then its S(i) fit too, numbers 8 and 255 admit it, and from its position on it has the bytes and states of the line that starts anew from what is seen of it.
 -- Assumes nothing.
-use mathlib.Core.Path.{_≡_, refl, ap, sym, _∙_}
+use mathlib.Core.Path.{_≡_, refl, ap, sym, _∙_, subst}
 use mathlib.Core.Bool.{true}
 use mathlib.Core.List.{List, [], _∷_, map}
 use Prim.Native.Nat.{ℕ, zero, suc, _+_, _-_, _*_, _/_, _<_, _≤_}
@@ -21,6 +21,7 @@ use Rattle.ciphers.proofs.Tests.{both-left, both-right, both-true}
 use Rattle.ciphers.proofs.Sound.{sound}
 use Rattle.ciphers.proofs.States.{all-take}
 use Rattle.machine.specs.Machine.{Line, MLine, idle, idleLine, genOf, genAt, unitAt, stateOf, byteOf, shown, based, enciphered, moved, opened, imageLine, imageIn, imageLength, limit, openOk, idleOk, lineOk, allOk}
+use Rattle.machine.proofs.Fields.{image-state}
 
 pub unit-pos : (c : ℕ) → zero < genOf c .unit
 unit-pos c = sound c .unit-pos
@@ -80,8 +81,7 @@ opened-good c key iv h hk hv = good-open {l = opened c key iv} refl h (omega ari
 
 -- the words of an image of bytes
 image-words : (img : List ℕ) → All Byte img → All Word (imageLine img .words)
-unfolding imageLine
-image-words img h = all-tab 38 (λ i. wordAt img (9 + 4 * i)) (λ i q. wordAt-word h (9 + 4 * i))
+image-words img h = subst (All Word) (sym (image-state img)) (all-tab 38 (λ i. wordAt img (9 + 4 * i)) (λ i q. wordAt-word h (9 + 4 * i)))
 
 pub resumed-good : (command : List ℕ) → All Byte command → openOk (imageLine (imageIn command)) ≡ true → Good (based (imageLine (imageIn command)))
 unfolding openOk based unitAt imageLine

@@ -6,20 +6,22 @@ use mathlib.Core.List.{List, [], _∷_, _++_, append-assoc}
 use Prim.Native.Nat.{ℕ, zero, suc, _+_, _-_, _/_, _≤_}
 use native.Mathlib.Nat.{div-eq-of-lt}
 use native.Mathlib.Omega.{arith}
-use lib.Dec.{eqb, lit≤}
+use lib.Dec.{eqb, leb, lit≤}
 use lib.ListN.{length, getD, set, length-set, replicate}
 use lib.Seq.{length-take-le, getD-set-same, getD-set-other}
-use borrow.Author.Tests.{eq-eqb, ne-eqb}
+use borrow.Author.Tests.{eq-eqb, ne-eqb, leb-true}
 use Rattle.words.specs.Lists.{iter}
 use Rattle.words.specs.Tests.{pick}
 use Rattle.keystream.specs.Stream.{stateAt}
 use Rattle.ciphers.specs.Table.{cipherAt}
-use Rattle.machine.specs.Machine.{Line, MLine, Machine, Seen, lineAt, idle, genOf, unitAt, stateOf, moved, shown, based, opened, limit, imageOf, imageLine, Call, Effect, refuse, put, crypt, park, public, decide, perform, step, seen, shows, freshMachine, freshCard}
+use Rattle.ciphers.proofs.Tests.{both-right}
+use Rattle.machine.specs.Machine.{Line, MLine, Machine, Seen, lineAt, idle, genOf, unitAt, stateOf, moved, shown, based, opened, limit, lastNumber, imageOf, imageLine, Call, Effect, refuse, put, crypt, park, public, decide, perform, step, seen, shows, freshMachine, freshCard}
 use Rattle.machine.specs.Logs.{Made, madeOf, machineRun, callsOf, cardAfter, lineOn, Did, did-nothing, did-open, did-crypt, did-park, did-resume, did-close, did, Log, begun, joined, noted, logAfter, logOf, standing}
 use Rattle.machine.specs.OneStream.{AllBytes, Streamed, GoesOn, On, Kept, Stands, OneStream, Takes, Counted}
 use Rattle.machine.proofs.Lines.{unit-pos, Good, good-idle, good-open, good-behind, shown-idle, shown-based, state-fit}
 use Rattle.machine.proofs.Simulation.{AllGood, good-get, step-good, fresh-good}
-use Rattle.machine.proofs.Images.{Sized, image-goes-on}
+use Rattle.machine.proofs.Fields.{Sized}
+use Rattle.machine.proofs.Images.{image-goes-on}
 use Rattle.machine.proofs.Explained.{Names, Explained, was-refused, was-open, was-crypt, was-park, was-resume, was-close, explained}
 use Rattle.machine.proofs.Codes.{code-small}
 use Rattle.machine.proofs.Streams.{Held, begun-held, effect-held, seen-at, held-streamed}
@@ -119,7 +121,8 @@ unfolding shown
 sized l good-idle e = absurd (let z : _≡_ {A = ℕ} 0 1 = e in omega arith)
 sized l (good-open m c p b f) e =
     let w = state-fit l (unitAt l) f in
-    record { up = e; pos = omega (arith, p); full = w .full; words = w .words }
+    let k = leb-true (l .cipher) 6 (both-right (leb 1 (l .cipher)) (leb (l .cipher) 6) c) in
+    record { up = e; cipher = omega (arith, k); pos = omega (arith, p); full = w .full; words = w .words }
 
 -- ---- one call, by what it did
 
@@ -127,67 +130,34 @@ record ParkWrote (m : Machine) (i : ℕ) (image : List ℕ) : Type 0 where
   pub up : lineAt m i .mode ≡ 1
   pub is : image ≡ imageOf (shown (lineAt m i))
 
-park-wrote : (m : Machine) (a : Call) (e : Effect) (d : Did) → Explained m a e d → (i : ℕ) (image : List ℕ) → d ≡ did-park i image → ParkWrote m i image
-park-wrote m a (refuse k) did-nothing was-refused i image q = absurd (let z : _≡_ {A = ℕ} 0 1 = cc in omega arith)
-park-wrote m a (put j _ size) (did-open _ _ _ _) (was-open n) i image q = absurd (let z : _≡_ {A = ℕ} 0 1 = cc in omega arith)
-park-wrote m a (crypt j k size) (did-crypt _ _ _) (was-crypt n h) i image q = absurd (let z : _≡_ {A = ℕ} 0 1 = cc in omega arith)
-park-wrote m a (park j size) (did-park _ w) (was-park n h) i image q =
-    let ej : j ≡ i = cc in
-    let ew : image ≡ w = cc in
-    record { up = subst (λ (x : ℕ). lineAt m x .mode ≡ 1) ej h; is = ew ∙ ap (λ (x : ℕ). imageOf (shown (lineAt m x))) ej }
-park-wrote m a (put j _ size) (did-resume _ _) (was-resume n) i image q = absurd (let z : _≡_ {A = ℕ} 0 1 = cc in omega arith)
-park-wrote m a (put j _ size) (did-close _) (was-close n) i image q = absurd (let z : _≡_ {A = ℕ} 0 1 = cc in omega arith)
+-- what a call did says of the line that it names, after the call; a park, of what it wrote
+abbrev Tells : Machine → Machine → Did → Type 0
+Tells m m' did-nothing = Unit {0}
+Tells m m' (did-open i c key iv) = lineAt m' i ≡ opened c key iv
+Tells m m' (did-crypt i input output) = lineAt m' i ≡ moved (lineAt m i) (length input)
+Tells m m' (did-park i image) = ParkWrote m i image
+Tells m m' (did-resume i image) = lineAt m' i ≡ based (imageLine image)
+Tells m m' (did-close i) = lineAt m' i ≡ idle
 
-crypt-set : (m : Machine) → length (m .lines) ≡ 8 → (a : Call) (e : Effect) (d : Did) → Explained m a e d → (i : ℕ) (input output : List ℕ) → d ≡ did-crypt i input output →
-    lineAt (perform m (a .text) e .machine) i ≡ moved (lineAt m i) (length input)
-crypt-set m eight a (refuse k) did-nothing was-refused i input output q = absurd (let z : _≡_ {A = ℕ} 0 1 = cc in omega arith)
-crypt-set m eight a (put j _ size) (did-open _ _ _ _) (was-open n) i input output q = absurd (let z : _≡_ {A = ℕ} 0 1 = cc in omega arith)
-crypt-set m eight a (crypt j k size) (did-crypt _ w _) (was-crypt n h) i input output q =
-    let ej : i ≡ j = cc in
-    let ew : w ≡ input = cc in
-    let b = n .below in
-    ap (λ (x : ℕ). getD (set (m .lines) j (moved (lineAt m j) k)) x idle) ej
-    ∙ getD-set-same (m .lines) j (moved (lineAt m j) k) idle (omega arith)
-    ∙ ap₂ (λ (x : ℕ) (y : ℕ). moved (lineAt m x) y) (sym ej) (sym (length-take-le k (a .text) h) ∙ ap length ew)
-crypt-set m eight a (park j size) (did-park _ _) (was-park n h) i input output q = absurd (let z : _≡_ {A = ℕ} 0 1 = cc in omega arith)
-crypt-set m eight a (put j _ size) (did-resume _ _) (was-resume n) i input output q = absurd (let z : _≡_ {A = ℕ} 0 1 = cc in omega arith)
-crypt-set m eight a (put j _ size) (did-close _) (was-close n) i input output q = absurd (let z : _≡_ {A = ℕ} 0 1 = cc in omega arith)
+module _ (m : Machine) (eight : length (m .lines) ≡ 8) (a : Call) where
+  set-at : (j : ℕ) (l : MLine) → Names a j → getD (set (m .lines) j l) j idle ≡ l
+  set-at j l n = let b = n .below in getD-set-same (m .lines) j l idle (omega arith)
+
+  tells : (e : Effect) (d : Did) → Explained m a e d → Tells m (perform m (a .text) e .machine) d
+  tells (refuse k) did-nothing was-refused = tt
+  tells (put j _ size) (did-open _ _ _ _) (was-open n) = set-at j _ n
+  tells (crypt j k size) (did-crypt _ _ _) (was-crypt n h) = set-at j _ n ∙ ap (moved (lineAt m j)) (sym (length-take-le k (a .text) h))
+  tells (park j size) (did-park _ _) (was-park n h) = record { up = h; is = refl }
+  tells (put j _ size) (did-resume _ _) (was-resume n) = set-at j _ n
+  tells (put j _ size) (did-close _) (was-close n) = set-at j idle n
+
+  -- by what it did, known by an equation
+  told : (e : Effect) (d : Did) → Explained m a e d → (d' : Did) → d ≡ d' → Tells m (perform m (a .text) e .machine) d'
+  told e d x d' q = subst (Tells m (perform m (a .text) e .machine)) q (tells e d x)
 
 good-within : (l : MLine) → Good l → l .pos ≤ limit
 good-within l good-idle = lit≤ tt
 good-within l (good-open m c p b f) = p
-
-resume-set : (m : Machine) → length (m .lines) ≡ 8 → (a : Call) (e : Effect) (d : Did) → Explained m a e d → (j : ℕ) (image : List ℕ) → d ≡ did-resume j image →
-    lineAt (perform m (a .text) e .machine) j ≡ based (imageLine image)
-resume-set m eight a (refuse k) did-nothing was-refused j image q = absurd (let z : _≡_ {A = ℕ} 0 1 = cc in omega arith)
-resume-set m eight a (put i _ size) (did-open _ _ _ _) (was-open n) j image q = absurd (let z : _≡_ {A = ℕ} 0 1 = cc in omega arith)
-resume-set m eight a (crypt i k size) (did-crypt _ _ _) (was-crypt n h) j image q = absurd (let z : _≡_ {A = ℕ} 0 1 = cc in omega arith)
-resume-set m eight a (park i size) (did-park _ _) (was-park n h) j image q = absurd (let z : _≡_ {A = ℕ} 0 1 = cc in omega arith)
-resume-set m eight a (put i _ size) (did-resume _ w) (was-resume n) j image q =
-    let ei : j ≡ i = cc in
-    let ew : w ≡ image = cc in
-    let b = n .below in
-    ap (λ (x : ℕ). getD (set (m .lines) i (based (imageLine w))) x idle) ei
-    ∙ getD-set-same (m .lines) i (based (imageLine w)) idle (omega arith)
-    ∙ ap (λ (x : List ℕ). based (imageLine x)) ew
-resume-set m eight a (put i _ size) (did-close _) (was-close n) j image q = absurd (let z : _≡_ {A = ℕ} 0 1 = cc in omega arith)
-
-open-set : (m : Machine) → length (m .lines) ≡ 8 → (a : Call) (e : Effect) (d : Did) → Explained m a e d → (i c : ℕ) (key iv : List ℕ) → d ≡ did-open i c key iv →
-    lineAt (perform m (a .text) e .machine) i ≡ opened c key iv
-open-set m eight a (refuse k) did-nothing was-refused i c key iv q = absurd (let z : _≡_ {A = ℕ} 0 1 = cc in omega arith)
-open-set m eight a (put j _ size) (did-open _ c' k' v') (was-open n) i c key iv q =
-    let ej : i ≡ j = cc in
-    let ec : c' ≡ c = cc in
-    let ek : k' ≡ key = cc in
-    let ev : v' ≡ iv = cc in
-    let b = n .below in
-    ap (λ (x : ℕ). getD (set (m .lines) j (opened c' k' v')) x idle) ej
-    ∙ getD-set-same (m .lines) j (opened c' k' v') idle (omega arith)
-    ∙ (λ t. opened (ec t) (ek t) (ev t))
-open-set m eight a (crypt j k size) (did-crypt _ _ _) (was-crypt n h) i c key iv q = absurd (let z : _≡_ {A = ℕ} 0 1 = cc in omega arith)
-open-set m eight a (park j size) (did-park _ _) (was-park n h) i c key iv q = absurd (let z : _≡_ {A = ℕ} 0 1 = cc in omega arith)
-open-set m eight a (put j _ size) (did-resume _ _) (was-resume n) i c key iv q = absurd (let z : _≡_ {A = ℕ} 0 1 = cc in omega arith)
-open-set m eight a (put j _ size) (did-close _) (was-close n) i c key iv q = absurd (let z : _≡_ {A = ℕ} 0 1 = cc in omega arith)
 
 pub opened-shown : (c : ℕ) (key iv : List ℕ) → shown (opened c key iv) ≡ record { mode = 1; cipher = c; n = 0; words = cipherAt c .init key iv }
 unfolding shown opened stateOf stateAt iter unitAt
@@ -259,7 +229,7 @@ module _ (xs : List Made) (is : xs ≡ machineRun freshMachine (callsOf xs)) (by
   from-key-at {before = before} {x = x} s i c key iv dx =
       let k = place before (s .after) x (s .is) in
       line-after before x k i
-      ∙ ap shown (open-set (machineAfter freshMachine before) (k .at .eight) (x .call) _ (did x) (k .did-is) i c key iv dx) ∙ opened-shown c key iv
+      ∙ ap shown (told (machineAfter freshMachine before) (k .at .eight) (x .call) _ (did x) (k .did-is) (did-open i c key iv) dx) ∙ opened-shown c key iv
 
   from-image-at : {before : List Made} {x : Made} → Stands before x xs → (j : ℕ) (image : List ℕ) → did x ≡ did-resume j image →
       lineOn (x .card) j ≡ imageLine image
@@ -267,7 +237,7 @@ module _ (xs : List Made) (is : xs ≡ machineRun freshMachine (callsOf xs)) (by
   from-image-at {before = before} {x = x} s j image dx =
       let k = place before (s .after) x (s .is) in
       line-after before x k j
-      ∙ ap shown (resume-set (machineAfter freshMachine before) (k .at .eight) (x .call) _ (did x) (k .did-is) j image dx) ∙ shown-based (imageLine image)
+      ∙ ap shown (told (machineAfter freshMachine before) (k .at .eight) (x .call) _ (did x) (k .did-is) (did-resume j image) dx) ∙ shown-based (imageLine image)
 
   goes-on-at : {before sofar : List Made} {p x : Made} → Stands sofar x xs → Stands before p sofar → (i j : ℕ) (image : List ℕ) →
       did p ≡ did-park i image → did x ≡ did-resume j image →
@@ -277,7 +247,7 @@ module _ (xs : List Made) (is : xs ≡ machineRun freshMachine (callsOf xs)) (by
       let e : xs ≡ before ++ (p ∷ (t .after ++ (x ∷ s .after))) =
       s .is ∙ ap (λ (l : List Made). l ++ (x ∷ s .after)) (t .is) ∙ append-assoc before (p ∷ t .after) (x ∷ s .after) in
       let k = place before (t .after ++ (x ∷ s .after)) p e in
-      let w = park-wrote m (p .call) _ (did p) (k .did-is) i image dp in
+      let w = told m (k .at .eight) (p .call) _ (did p) (k .did-is) (did-park i image) dp in
       let g = image-goes-on (lineAt m i) (good-behind (lineAt m i) (good-get (k .at .good) i)) (sized (lineAt m i) (good-get (k .at .good) i) (w .up)) image (w .is) in
       subst (λ (y : Log). GoesOn (standing (logOf i before)) (y .start)) (sym (log-last j sofar x dx ∙ on-its-line j _ _))
       (subst (λ (y : MLine). GoesOn y (based (imageLine image))) (k .at .held i .line) g)
@@ -313,7 +283,7 @@ module _ (xs : List Made) (is : xs ≡ machineRun freshMachine (callsOf xs)) (by
         from = ap (λ (y : Line). y .n) here ∙ held-streamed (lineAt m i) (logOf i before) (k .at .held i) .position;
         to =
             ap (λ (y : Line). y .n) (line-after before x k i)
-            ∙ ap (λ (y : MLine). y .pos) (crypt-set m (k .at .eight) (x .call) _ (did x) (k .did-is) i input output dx)
+            ∙ ap (λ (y : MLine). y .pos) (told m (k .at .eight) (x .call) _ (did x) (k .did-is) (did-crypt i input output) dx)
             ∙ ap (λ (y : Line). y .n + length input) (sym here);
         since = ap (λ (g : Log). g .start) l;
         taken = ap (λ (g : Log). g .ins) l;
@@ -326,10 +296,10 @@ module _ (xs : List Made) (is : xs ≡ machineRun freshMachine (callsOf xs)) (by
       let e : lineOn (cardAfter freshCard xs) i ≡ shown (lineAt (machineAfter freshMachine xs) i) = ap (λ (c : Seen). lineOn c i) (r .card) ∙ seen-at (machineAfter freshMachine xs) i in
       subst (λ (y : Line). y .n ≤ limit) (sym e) (good-within (lineAt (machineAfter freshMachine xs) i) (good-get (r .good) i))
 
-  codes-at : {before : List Made} {x : Made} → Stands before x xs → x .code ≤ 13
+  codes-at : {before : List Made} {x : Made} → Stands before x xs → x .code ≤ lastNumber
   codes-at {before = before} {x = x} s =
       let k = place before (s .after) x (s .is) in
-      subst (λ (y : Made). y .code ≤ 13) (sym (k .run)) (code-small (machineAfter freshMachine before) (x .call))
+      subst (λ (y : Made). y .code ≤ lastNumber) (sym (k .run)) (code-small (machineAfter freshMachine before) (x .call))
 
   pub machine-counted : Counted xs
   machine-counted = record { takes = takes-at; within = within-at; codes = codes-at }

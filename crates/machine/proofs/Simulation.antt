@@ -18,11 +18,11 @@ use Rattle.command.specs.declared.Command.{Command}
 use Rattle.command.specs.declared.Command.the-variants.{Tray, Own, Crypt, Park, Resume, Close}
 use Rattle.command.specs.declared.Decoded.{Decoded}
 use Rattle.command.specs.declared.Decoded.the-variants.{Run, Refused}
-use Rattle.command.specs.Decode.{decodeOf, numberOf}
+use Rattle.command.specs.Decode.{decodeOf, numberOf, operandsOf}
 use Rattle.machine.specs.Machine.{Line, MLine, Machine, idle, shown, based, moved, enciphered, imageOf, lineAt, seen, back, lineCount, View, noView, viewOf, public, viewAt, isOpen, limit, keyIn, ivIn, Call, Effect, refuse, put, crypt, park, effectOf, ofDecoded, decide, answer, perform, step, shows, cardStep, freshMachine}
 use Rattle.machine.specs.OneStream.{CallBytes}
 use Rattle.machine.proofs.Lines.{Good, good-idle, shown-idle, shown-based, all-ok, opened-good, resumed-good, moved-same, crypted-same, moved-good, good-behind}
-use Rattle.machine.proofs.Rows.{Passed, by-rows}
+use Rattle.machine.proofs.Rows.{Passed, passed, decided-by}
 
 -- ---- every line
 
@@ -81,22 +81,22 @@ module _ (m : Machine) (a : Call) where
   fair-effect : CallBytes a → (c : Command) → Passed c (public m) a → Fair m a (effectOf c a)
   fair-effect b (Tray i c k) p =
       fair-put
-      (opened-good (numberOf c) (keyIn (Tray i c k) a) (ivIn (Tray i c k) a) (known c)
+      (opened-good (numberOf c) (keyIn (operandsOf (Tray i c k)) a) (ivIn (operandsOf (Tray i c k)) a) (known c)
       (all-take (cipherAt (numberOf c) .key) (all-take 32 (all-drop (32 * k) (b .tray))))
       (all-take (cipherAt (numberOf c) .iv) (all-take 16 (all-drop 4 (b .command)))))
   fair-effect b (Own i c) p =
       fair-put
-      (opened-good (numberOf c) (keyIn (Own i c) a) (ivIn (Own i c) a) (known c)
+      (opened-good (numberOf c) (keyIn (operandsOf (Own i c)) a) (ivIn (operandsOf (Own i c)) a) (known c)
       (all-take (cipherAt (numberOf c) .key) (all-take 32 (all-drop 3 (b .command))))
       (all-take (cipherAt (numberOf c) .iv) (all-take 16 (all-drop 35 (b .command)))))
-  fair-effect b (Crypt i n) p = fair-crypt (is-open i (p .row6)) (in-limit i n (p .row13)) (ltb-false (length (a .text)) n (p .row11))
-  fair-effect b (Park i) p = fair-park (is-open i (p .row6))
-  fair-effect b (Resume i) p = fair-put (resumed-good (a .command) (b .command) (not-false _ (p .row8)))
+  fair-effect b (Crypt i n) p = fair-crypt (is-open i (passed 6 p)) (in-limit i n (passed 13 p)) (ltb-false (length (a .text)) n (passed 11 p))
+  fair-effect b (Park i) p = fair-park (is-open i (passed 6 p))
+  fair-effect b (Resume i) p = fair-put (resumed-good (a .command) (b .command) (not-false _ (passed 8 p)))
   fair-effect b (Close i) p = fair-put good-idle
 
   fair : CallBytes a → (d : Decoded) → Fair m a (ofDecoded d (public m) a)
   fair b (Refused k) = fair-refuse
-  fair b (Run c) = by-rows (Fair m a) (λ k z. fair-refuse) c (public m) a (fair-effect b c)
+  fair b (Run c) = decided-by (Fair m a) (λ k z. fair-refuse) c (public m) a (fair-effect b c)
 
 -- ---- lines, and the lines that start anew from what is seen of them
 

@@ -8,7 +8,7 @@ use Rattle.words.specs.Tests.{pick}
 use Rattle.command.specs.declared.Command.the-variants.{Tray, Own, Crypt, Park, Resume, Close}
 use Rattle.command.specs.declared.Decoded.{Decoded}
 use Rattle.command.specs.declared.Decoded.the-variants.{Run, Refused}
-use Rattle.command.specs.Decode.{decodeOf, numberOf}
+use Rattle.command.specs.Decode.{decodeOf, numberOf, operandsOf}
 use Rattle.machine.specs.Machine.{Line, MLine, Call, Shown, Seen, Machine, idle, idleLine, moved, opened, based, imageLine, imageIn, keyIn, ivIn, shows, step}
 
 -- ---- the list
@@ -64,8 +64,8 @@ pub data Did : Type 0 where
 
 -- An accepted command. A crypt's input is the data it uses, its output what it writes.
 abbrev pub doneBy : Made → Decoded → Did
-doneBy x (Run (Tray i c k)) = did-open i (numberOf c) (keyIn (Tray i c k) (x .call)) (ivIn (Tray i c k) (x .call))
-doneBy x (Run (Own i c)) = did-open i (numberOf c) (keyIn (Own i c) (x .call)) (ivIn (Own i c) (x .call))
+doneBy x (Run (Tray i c k)) = did-open i (numberOf c) (keyIn (operandsOf (Tray i c k)) (x .call)) (ivIn (operandsOf (Tray i c k)) (x .call))
+doneBy x (Run (Own i c)) = did-open i (numberOf c) (keyIn (operandsOf (Own i c)) (x .call)) (ivIn (operandsOf (Own i c)) (x .call))
 doneBy x (Run (Crypt i n)) = did-crypt i (take (x .used-data) (x .call .text)) (take (x .written) (x .out))
 doneBy x (Run (Park i)) = did-park i (take (x .written) (x .out))
 doneBy x (Run (Resume i)) = did-resume i (imageIn (x .call .command))

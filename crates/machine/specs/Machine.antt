@@ -8,9 +8,7 @@ use Prim.Native.Nat.{ℕ, zero, suc, _+_, _*_, _/_, _%_, _^_}
 use lib.Dec.{ltb, leb, eqb}
 use lib.ListN.{length, getD, take, drop, set, replicate}
 pub use Rattle.card_sizes.specs.Sizes.{imageLength, lineCount}
-use Rattle.card_sizes.specs.Sizes.{imageState, keyLength, ivLength, fullTray, trayIv, ownKey, ownIv, resumeImage}
-use Rattle.words.specs.Lists.{tab}
-use Rattle.words.specs.Strings.{wordAt, bytesOf}
+use Rattle.card_sizes.specs.Sizes.{keyLength, ivLength, fullTray, ownKey, resumeImage}
 use Rattle.words.specs.Tests.{both, pick}
 use Rattle.keystream.specs.Stream.{Gen, stateAt, byteAt, xorFrom}
 use Rattle.ciphers.specs.States.{stateWords}
@@ -19,7 +17,10 @@ use Rattle.command.specs.declared.Command.{Command}
 use Rattle.command.specs.declared.Command.the-variants.{Tray, Own, Crypt, Park, Resume, Close}
 use Rattle.command.specs.declared.Decoded.{Decoded}
 use Rattle.command.specs.declared.Decoded.the-variants.{Run, Refused}
-use Rattle.command.specs.Decode.{decodeOf, numberOf, lineOf, kindOf, sizeOf}
+pub use Rattle.command.specs.Rows.{lastNumber}
+use Rattle.command.specs.Rows.{Row, _when_, unless, among}
+use Rattle.command.specs.Decode.{decodeOf, Operands, operandsOf, sizeOf}
+use Rattle.machine.specs.Fields.{written, fieldsAt}
 
 -- ---- lines
 
@@ -82,21 +83,20 @@ moved l k = record { mode = l .mode; cipher = l .cipher; base = l .base; from = 
 unfoldable pub opened : ℕ → List ℕ → List ℕ → MLine
 opened c key iv = record { mode = 1; cipher = c; base = cipherAt c .init key iv; from = 0; pos = 0 }
 
--- ---- images: cipher 1, n in 8 bytes, the state and zeros behind it
+-- ---- images: a field of 1 byte for the cipher, one of 8 for n, and one of 4 for each of the state's words with the zeros after them
 
--- words one after the other, most significant byte first
-abbrev pub spelt : List ℕ → List ℕ
-spelt [] = []
-spelt (w ∷ ws) = bytesOf w ++ spelt ws
+abbrev pub imageWidths : List ℕ
+imageWidths = 1 ∷ 8 ∷ replicate stateWords 4
 
--- n's two halves, and the state's words with the zeros after them
 unfoldable pub imageOf : Line → List ℕ
-imageOf l = l .cipher ∷ spelt (l .n / 2 ^ 32 ∷ l .n % 2 ^ 32 ∷ l .words)
+imageOf l = written imageWidths (l .cipher ∷ l .n ∷ l .words)
 
 -- the open line that an image holds
+abbrev pub fieldsLine : List ℕ → Line
+fieldsLine xs = record { mode = 1; cipher = getD xs 0 0; n = getD xs 1 0; words = drop 2 xs }
+
 unfoldable pub imageLine : List ℕ → Line
-imageLine img =
-    record { mode = 1; cipher = getD img 0 0; n = wordAt img 1 * 2 ^ 32 + wordAt img 5; words = tab stateWords (λ i. wordAt img (imageState + 4 * i)) }
+imageLine img = fieldsLine (fieldsAt imageWidths img 0)
 
 -- the image that a resume brings
 abbrev pub imageIn : List ℕ → List ℕ
@@ -202,69 +202,32 @@ isIdle v i = eqb (viewAt v i .mode) 0
 abbrev pub isOpen : Public → ℕ → Bool
 isOpen v i = eqb (viewAt v i .mode) 1
 
--- ---- commands by their first byte, and their operands
+-- ---- a command's key and IV
 
--- 01 or 02
-abbrev pub opens : Command → Bool
-opens c = ltb (kindOf c) 3
+-- 01; 01 or 02; 03
+abbrev pub fromTray : Operands → Bool
+fromTray o = eqb (o .kind) 1
 
--- 01
-abbrev pub fromTray : Command → Bool
-fromTray c = eqb (kindOf c) 1
+abbrev pub opens : Operands → Bool
+opens o = among (1 ∷ 2 ∷ []) (o .kind)
 
--- 03
-abbrev pub crypts : Command → Bool
-crypts c = eqb (kindOf c) 3
+abbrev pub crypts : Operands → Bool
+crypts o = eqb (o .kind) 3
 
--- 05
-abbrev pub resumes : Command → Bool
-resumes c = eqb (kindOf c) 5
+-- a key, a part of the tray or a part of the command, and an IV, none of a command that has none; the cipher's own bytes stand first, zeros after
+abbrev pub keyField : Operands → Call → List ℕ
+keyField o a =
+    pick (fromTray o) (take keyLength (drop (keyLength * o .key) (a .tray)))
+    (pick (opens o) (take keyLength (drop ownKey (a .command))) [])
 
--- 01, 02 or 05
-abbrev pub begins : Command → Bool
-begins c = pick (opens c) true (resumes c)
+abbrev pub ivField : Operands → Call → List ℕ
+ivField o a = pick (opens o) (take ivLength (drop (o .iv) (a .command))) []
 
--- 03 or 04
-abbrev pub writes : Command → Bool
-writes c = pick (crypts c) true (eqb (kindOf c) 4)
+abbrev pub keyIn : Operands → Call → List ℕ
+keyIn o a = take (cipherAt (o .cipher) .key) (keyField o a)
 
--- the cipher that a line is opened with, the number of its key in the tray, and the count of a crypt; 0 of another command
-abbrev pub cipherIn : Command → ℕ
-cipherIn (Tray i c k) = numberOf c
-cipherIn (Own i c) = numberOf c
-cipherIn (Crypt i n) = 0
-cipherIn (Park i) = 0
-cipherIn (Resume i) = 0
-cipherIn (Close i) = 0
-
-abbrev pub keyNumber : Command → ℕ
-keyNumber (Tray i c k) = k
-keyNumber (Own i c) = 0
-keyNumber (Crypt i n) = 0
-keyNumber (Park i) = 0
-keyNumber (Resume i) = 0
-keyNumber (Close i) = 0
-
-abbrev pub countOf : Command → ℕ
-countOf (Tray i c k) = 0
-countOf (Own i c) = 0
-countOf (Crypt i n) = n
-countOf (Park i) = 0
-countOf (Resume i) = 0
-countOf (Close i) = 0
-
--- a key, a part of the tray or a part of the command, and an IV; the cipher's own bytes stand first, zeros after
-abbrev pub keyField : Command → Call → List ℕ
-keyField c a = pick (fromTray c) (take keyLength (drop (keyLength * keyNumber c) (a .tray))) (take keyLength (drop ownKey (a .command)))
-
-abbrev pub ivField : Command → Call → List ℕ
-ivField c a = take ivLength (drop (pick (fromTray c) trayIv ownIv) (a .command))
-
-abbrev pub keyIn : Command → Call → List ℕ
-keyIn c a = take (cipherAt (cipherIn c) .key) (keyField c a)
-
-abbrev pub ivIn : Command → Call → List ℕ
-ivIn c a = take (cipherAt (cipherIn c) .iv) (ivField c a)
+abbrev pub ivIn : Operands → Call → List ℕ
+ivIn o a = take (cipherAt (o .cipher) .iv) (ivField o a)
 
 -- a byte beyond the cipher's length is not 0
 unfoldable pub spareUsed : ℕ → List ℕ → List ℕ → Bool
@@ -283,41 +246,70 @@ pub data Effect : Type 0 where
   crypt : (i count size : ℕ) → Effect
   park : (i size : ℕ) → Effect
 
--- a row of the table: the first whose condition holds gives its number
 unfoldable pub refuseIf : Bool → ℕ → Effect → Effect
 refuseIf true k e = refuse k
 refuseIf false k e = e
 
+-- the line that an open puts
+abbrev pub openedBy : Operands → Call → MLine
+openedBy o a = opened (o .cipher) (keyIn o a) (ivIn o a)
+
 abbrev pub effectOf : Command → Call → Effect
-effectOf (Tray i c k) a = put i (opened (numberOf c) (keyIn (Tray i c k) a) (ivIn (Tray i c k) a)) (sizeOf (Tray i c k))
-effectOf (Own i c) a = put i (opened (numberOf c) (keyIn (Own i c) a) (ivIn (Own i c) a)) (sizeOf (Own i c))
+effectOf (Tray i c k) a = put i (openedBy (operandsOf (Tray i c k)) a) (sizeOf (Tray i c k))
+effectOf (Own i c) a = put i (openedBy (operandsOf (Own i c)) a) (sizeOf (Own i c))
 effectOf (Crypt i n) a = crypt i n (sizeOf (Crypt i n))
 effectOf (Park i) a = park i (sizeOf (Park i))
 effectOf (Resume i) a = put i (based (imageLine (imageIn (a .command)))) (sizeOf (Resume i))
 effectOf (Close i) a = put i idle (sizeOf (Close i))
 
--- The refusals of a command that is read, in document 01's order; 1, 2, 1, 3 and 4 come before them, in `decodeOf`.
-unfoldable pub decided : Command → Public → Call → Effect
-decided c v a =
+-- All that a decision reads of a call: three lengths, whether a byte of the key or the IV beyond the cipher's length is not 0, and the image that a resume brings; no byte of data, and
+-- none of a key or an IV within the cipher's lengths.
+pub record Facts : Type 0 where
+  pub tray : ℕ
+  pub text : ℕ
+  pub out : ℕ
+  pub spare : Bool
+  pub image : List ℕ
+
+abbrev pub factsOf : Operands → Call → Facts
+factsOf o a =
+    record {
+      tray = length (a .tray);
+      text = length (a .text);
+      out = length (a .out);
+      spare = spareUsed (o .cipher) (keyField o a) (ivField o a);
+      image = pick (eqb (o .kind) 5) (imageIn (a .command)) [];
+    }
+
+-- The refusals of a command that is read, in document 01's order; 1, 2, 1, 3 and 4 come before them, in `unread` and with the cipher that is read.
+abbrev pub refusals : Operands → Public → Facts → List Row
+refusals o v f =
     -- open or resume on an open line
-    refuseIf (both (begins c) (not (isIdle v (lineOf c)))) 5
+    (5 when both (among (1 ∷ 2 ∷ 5 ∷ []) (o .kind)) (not (isIdle v (o .line))))
     -- crypt, park or close on an idle one
-    (refuseIf (both (not (begins c)) (not (isOpen v (lineOf c)))) 6
+    ∷ (6 when both (among (3 ∷ 4 ∷ 6 ∷ []) (o .kind)) (not (isOpen v (o .line))))
     -- tray length not a multiple of 32, or over 8,192
-    (refuseIf (both (fromTray c) (not (trayOk (length (a .tray))))) 9
+    ∷ (9 when both (fromTray o) (not (trayOk (f .tray))))
     -- key number not in it
-    (refuseIf (both (fromTray c) (ltb (length (a .tray)) (keyLength * keyNumber c + keyLength))) 10
+    ∷ (10 when both (fromTray o) (ltb (f .tray) (keyLength * o .key + keyLength)))
     -- a key or IV byte beyond the cipher's length is not 0
-    (refuseIf (both (opens c) (spareUsed (cipherIn c) (keyField c a) (ivField c a))) 7
+    ∷ (7 when both (opens o) (f .spare))
     -- image: cipher, n, padding, ZUC cell, Rabbit carry
-    (refuseIf (both (resumes c) (not (openOk (imageLine (imageIn (a .command)))))) 8
+    ∷ (8 when both (eqb (o .kind) 5) (not (openOk (imageLine (f .image)))))
     -- n + count over 2^36
-    (refuseIf (both (crypts c) (ltb limit (viewAt v (lineOf c) .pos + countOf c))) 13
+    ∷ (13 when both (crypts o) (ltb limit (viewAt v (o .line) .pos + o .count)))
     -- data shorter than count
-    (refuseIf (both (crypts c) (ltb (length (a .text)) (countOf c))) 11
+    ∷ (11 when both (crypts o) (ltb (f .text) (o .count)))
     -- out shorter than count, or than an image
-    (refuseIf (both (writes c) (ltb (length (a .out)) (pick (crypts c) (countOf c) imageLength))) 12
-    (effectOf c a)))))))))
+    ∷ (12 when both (among (3 ∷ 4 ∷ []) (o .kind)) (ltb (f .out) (pick (crypts o) (o .count) imageLength)))
+    ∷ []
+
+-- the rows that a command meets in a call, and what is left where it passes them
+abbrev pub rowsOf : Command → Public → Call → List Row
+rowsOf c v a = refusals (operandsOf c) v (factsOf (operandsOf c) a)
+
+unfoldable pub decided : Command → Public → Call → Effect
+decided c v a = unless refuseIf (rowsOf c v a) (effectOf c a)
 
 abbrev pub ofDecoded : Decoded → Public → Call → Effect
 ofDecoded (Refused k) v a = refuse k

@@ -7,7 +7,7 @@ use lib.ListN.{length, getD}
 use Rattle.words.specs.Lists.{All, Byte}
 use Rattle.keystream.specs.Stream.{xorFrom}
 use Rattle.ciphers.specs.Table.{cipherAt}
-use Rattle.machine.specs.Machine.{Line, MLine, Call, genOf, genAt, byteOf, stateOf, imageLine, limit, freshMachine, freshCard}
+use Rattle.machine.specs.Machine.{Line, MLine, Call, genOf, genAt, byteOf, stateOf, imageLine, limit, lastNumber, freshMachine, freshCard}
 use Rattle.machine.specs.Logs.{Made, machineRun, callsOf, cardAfter, lineOn, did, did-open, did-crypt, did-park, did-resume, Log, logOf, standing}
 
 -- The buffers that a key, an IV or an image is read from hold bytes. The entries promise it of what they were lent.
@@ -88,4 +88,4 @@ pub record Counted (xs : List Made) : Type 0 where
   -- after the list no line stands past 2^36
   pub within : (i : ℕ) → lineOn (cardAfter freshCard xs) i .n ≤ limit
   -- every code is 0 or a number from 1 to 13
-  pub codes : {before : List Made} {x : Made} → Stands before x xs → x .code ≤ 13
+  pub codes : {before : List Made} {x : Made} → Stands before x xs → x .code ≤ lastNumber

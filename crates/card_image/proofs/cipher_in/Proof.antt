@@ -1,14 +1,13 @@
 -- `card_image::cipher_in` meets its contract: it is the first byte.
 -- Assumes nothing.
-use mathlib.Core.Path.{refl}
-use Rattle.machine.specs.Machine.{imageLine}
+use mathlib.Core.Path.{sym}
+use Rattle.machine.proofs.Fields.{image-cipher}
 use borrow.Author.Needs.{needs}
 use Rattle.card_image.proofs.cipher_in.Statement.{statement}
 use Rattle.card_image.proofs.cipher_in.Tie as tie
 
 returns : tie.Need-returns
-unfolding imageLine
-returns c = refl
+returns c = sym (image-cipher _)
 
 pub cipher-in-spec : {M : Type 1} → statement M
 cipher-in-spec = tie.close (tie.spec (search needs) returns)

@@ -1,13 +1,12 @@
 -- `card_image::position_in` meets its contract: each half is read from its own place.
 -- Assumes nothing.
-use Rattle.machine.specs.Machine.{imageLine}
+use Rattle.machine.proofs.Fields.{image-position}
 use borrow.Author.Needs.{needs}
 use Rattle.card_image.proofs.position_in.Statement.{statement}
 use Rattle.card_image.proofs.position_in.Tie as tie
 
 returns : tie.Need-returns
-unfolding imageLine
-returns c = cc
+returns c = rw (image-position _) cc
 
 pub position-in-spec : {M : Type 1} → statement M
 position-in-spec = tie.close (tie.spec (λ c κs. search needs) (search needs) (λ c κs. search needs) (search needs) (search needs) (search needs) returns)

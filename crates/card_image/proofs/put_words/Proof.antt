@@ -4,7 +4,7 @@ use Prim.Native.Nat.{_-_, _*_, _≤_}
 use mathlib.Core.Path.{_≡_, refl}
 use native.Mathlib.Omega.{arith}
 use lib.ListN.{length, take}
-use Rattle.machine.specs.Machine.{spelt}
+use Rattle.machine.specs.Fields.{spelt}
 use Rattle.buffer.proofs.Fronts.{Front, front-none, front-length, front-room, front-within}
 use Rattle.card_image.proofs.Fronts.{word-more, words-all}
 use borrow.Author.Needs.{needs}

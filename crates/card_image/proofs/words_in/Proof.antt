@@ -1,7 +1,7 @@
 -- `card_image::words_in` meets its contract: the first i words are those of the image.
 -- Assumes nothing.
 use Prim.Native.Nat.{_+_, _-_, _*_, _≤_}
-use mathlib.Core.Path.{_≡_, refl}
+use mathlib.Core.Path.{_≡_, refl, sym}
 use mathlib.Core.List.{_++_}
 use native.Mathlib.Omega.{arith}
 use lib.ListN.{drop, replicate}
@@ -9,7 +9,7 @@ use denote.Ref.{now}
 use Rattle.words.specs.Lists.{tab}
 use Rattle.words.specs.Strings.{wordAt}
 use Rattle.words.proofs.Registers.{fill}
-use Rattle.machine.specs.Machine.{imageLine}
+use Rattle.machine.proofs.Fields.{image-state}
 use borrow.Author.Needs.{needs}
 use Rattle.card_image.proofs.words_in.Statement.{statement}
 use Rattle.card_image.proofs.words_in.Tie as tie
@@ -32,8 +32,7 @@ loop-again c =
     )
 
 returns : tie.Need-returns Inv-loop μ-loop
-unfolding imageLine
-returns c = let e : c .before .loop .i ≡ 38 = omega arith in rw (c .before .loop .inv .1, e)
+returns c = let e : c .before .loop .i ≡ 38 = omega arith in rw (c .before .loop .inv .1, e) (sym (image-state _))
 
 pub words-in-spec : {M : Type 1} → statement M
 words-in-spec =

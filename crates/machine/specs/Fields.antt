@@ -1,0 +1,31 @@
+-- Numbers in fields of bytes, one field behind the other, each most significant byte first: what an image is written and read by.
+-- Assumes nothing.
+use mathlib.Core.List.{List, [], _∷_, _++_}
+use Prim.Native.Nat.{ℕ, zero, suc, _+_, _*_, _/_, _%_, _^_}
+use lib.ListN.{getD, drop}
+use Rattle.words.specs.Strings.{bytesOf}
+
+-- a number in a field of w bytes
+abbrev pub field : ℕ → ℕ → List ℕ
+field zero x = []
+field (suc w) x = x / 2 ^ (8 * w) % 2 ^ 8 ∷ field w x
+
+-- the number in the w bytes from byte i on
+abbrev pub numberAt : ℕ → List ℕ → ℕ → ℕ
+numberAt zero s i = 0
+numberAt (suc w) s i = getD s i 0 * 2 ^ (8 * w) + numberAt w s (i + 1)
+
+-- numbers in fields of these widths; where there is none, 0
+abbrev pub written : List ℕ → List ℕ → List ℕ
+written [] xs = []
+written (w ∷ ws) xs = field w (getD xs 0 0) ++ written ws (drop 1 xs)
+
+-- the numbers in the fields of these widths, from byte i on
+abbrev pub fieldsAt : List ℕ → List ℕ → ℕ → List ℕ
+fieldsAt [] s i = []
+fieldsAt (w ∷ ws) s i = numberAt w s i ∷ fieldsAt ws s (i + w)
+
+-- words one after the other, each in four bytes
+abbrev pub spelt : List ℕ → List ℕ
+spelt [] = []
+spelt (w ∷ ws) = bytesOf w ++ spelt ws
