@@ -18,7 +18,7 @@ use Rattle.words.specs.Tests.{both}
 use Rattle.ciphers.specs.Table.{allOf, isZero}
 use Rattle.ciphers.proofs.Tests.{both-true}
 use Rattle.machine.specs.Machine.{Line, allOk, lineOk, idleLine}
-use Rattle.card_checks.proofs.Between.{both-false}
+use Rattle.ciphers.proofs.Tests.{both-false}
 
 -- the elements before i passed
 abbrev pub Passed : (ℕ → Bool) → List ℕ → ℕ → Type 0

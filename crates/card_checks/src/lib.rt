@@ -7,13 +7,17 @@ ghost use Prim.Native.Nat.{_≤_};
 ghost use lib.ListN.{length, take, getD};
 ghost use Rattle.card_sizes.specs.Sizes.{stateWords, lineSize, cardSize};
 ghost use Rattle.words.specs.Tests.{both, pick};
-ghost use Rattle.ciphers.specs.Table.{isCipher, cipherAt, areCells, allZero, spare as spareOf};
+ghost use Rattle.command.specs.Decode.{numberOf};
+ghost use Rattle.ciphers.specs.Table.{cipherAt, areCells, allZero, spare as spareOf};
 ghost use Rattle.machine.specs.Machine.{openOk, lineOk, cardOk};
 ghost use Rattle.card_layout.specs.Words.{lineIn, lineWords, cardIn, Sound};
 use card_sizes::HEAD;
 use card_sizes::LINE;
 use card_sizes::LINES;
 use card_sizes::STATE;
+use command::Cipher;
+use command::CipherRead;
+use command::read_cipher;
 
 // Document 01's 2^36.
 pub const LIMIT: u64 = 68_719_476_736;
@@ -107,17 +111,17 @@ fn rabbit_admits(w: &[u32]) -> bool
 }
 
 // Whether a cipher admits a state.
-fn admits(c: u8, w: &[u32]) -> bool
+fn admits(c: Cipher, w: &[u32]) -> bool
     requires { ⌜ length (now w) ≡ stateWords ⌝ }
-    ensures { λ r. ⌜ r ≡ cipherAt c .admits (now (w .entry)) ⌝ }
+    ensures { λ r. ⌜ r ≡ cipherAt (numberOf c) .admits (now (w .entry)) ⌝ }
 {
     match c {
-        1 => zuc_admits(w),
-        2 => rabbit_admits(w),
-        3 => spare(w, 18),
-        4 => spare(w, 18),
-        5 => spare(w, 20),
-        _ => true,
+        Cipher::Zuc => zuc_admits(w),
+        Cipher::Rabbit => rabbit_admits(w),
+        Cipher::Snow128 => spare(w, 18),
+        Cipher::Snow256 => spare(w, 18),
+        Cipher::Kcipher2 => spare(w, 20),
+        Cipher::Mugi => true,
     }
 }
 
@@ -126,16 +130,13 @@ pub fn open_with(c: u8, n: u64, w: &[u32]) -> bool
     requires { ⌜ length (now w) ≡ stateWords ⌝ }
     ensures { λ r. ⌜ r ≡ openOk (record { mode = 1; cipher = c; n = n; words = now (w .entry) }) ⌝ }
 {
-    if c == 0 {
-        return false;
-    }
-    if c > 6 {
-        return false;
-    }
     if n > LIMIT {
         return false;
     }
-    admits(c, &w[..STATE])
+    let CipherRead::Is(cipher) = read_cipher(c) else {
+        return false;
+    };
+    admits(cipher, &w[..STATE])
 }
 
 // Whether the line that stands in words is as a call leaves it; where it is, the words hold that line and nothing else. An idle line's words are all zero.

@@ -1,10 +1,11 @@
 -- A crypt of a line's words from a place within a unit is one of the line from its position, and an open line has what a crypt asks.
 -- Assumes nothing.
 use mathlib.Core.Path.{_≡_, ap, sym, subst, _∙_}
-use mathlib.Core.Bool.{true}
+use mathlib.Core.Bool.{true, false}
 use mathlib.Core.List.{List, _++_}
 use Prim.Native.Nat.{ℕ, _+_, _/_, _%_, _<_}
 use native.Mathlib.Nat.{mod-lt}
+use native.Mathlib.Omega.{arith}
 use lib.Dec.{leb}
 use lib.ListN.{length, drop}
 use Rattle.words.specs.Tests.{both}
@@ -12,7 +13,7 @@ use Rattle.keystream.specs.Stream.{stateAt, byteAt, xorFrom}
 use Rattle.keystream.proofs.Parts.{stateAt-place, xorFrom-place}
 use Rattle.ciphers.specs.Table.{cipherAt, isCipher}
 use Rattle.ciphers.proofs.Sound.{sound}
-use Rattle.ciphers.proofs.Tests.{both-right}
+use Rattle.ciphers.proofs.Tests.{both-left, both-right}
 use Rattle.card_sizes.specs.Sizes.{stateWords}
 use Rattle.card_layout.proofs.Lines.{Plain}
 use Rattle.machine.specs.Machine.{Line, based, shown, moved, stateOf, unitAt, byteOf, enciphered, limit, openOk}
@@ -39,6 +40,12 @@ unfolding openOk
 open-admits l h =
     let a = cipherAt (l .cipher) .admits (l .words) in
     both-right (leb (l .n) limit) a (both-right (isCipher (l .cipher)) (both (leb (l .n) limit) a) h)
+
+pub never : (l : Line) → openOk l ≡ true → isCipher (l .cipher) ≡ false → ⊥
+unfolding openOk
+never l h e =
+    let t : true ≡ false = sym (both-left (isCipher (l .cipher)) (both (leb (l .n) limit) (cipherAt (l .cipher) .admits (l .words))) h) ∙ e in
+    let z : _≡_ {A = ℕ} 0 1 = cc in omega arith
 
 pub unit-up : (c u : ℕ) → u ≡ cipherAt c .gen .unit → 0 < u
 unit-up c u e = subst (λ (x : ℕ). 0 < x) (sym e) (sound c .unit-pos)

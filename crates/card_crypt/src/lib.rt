@@ -19,6 +19,8 @@ use card_sizes::CRYPT;
 use card_sizes::HEAD;
 use card_sizes::LINE;
 use ciphers::unit_of;
+use command::CipherRead;
+use command::read_cipher;
 
 // The open line that stands in words, as many bytes on as the text has, which goes to the start of out, XORed with the line's keystream.
 fn encipher(line: &mut [u32], text: &[u8], out: &mut [u8])
@@ -28,10 +30,13 @@ fn encipher(line: &mut [u32], text: &[u8], out: &mut [u8])
 {
     let cipher = card_layout::cipher_of(line);
     let n = card_layout::position_of(line);
-    let unit = unit_of(cipher) as u64;
+    let CipherRead::Is(c) = read_cipher(cipher) else {
+        return;
+    };
+    let unit = unit_of(c) as u64;
     let skip = (n % unit) as usize;
     let k = text.len() as u64;
-    dispatch::crypt(cipher, &mut line[HEAD..LINE], skip, text, out);
+    dispatch::crypt(c, &mut line[HEAD..LINE], skip, text, out);
     let next = n + k;
     card_layout::put_head(1, cipher, next, line);
 }

@@ -13,7 +13,7 @@ use Rattle.ciphers.proofs.Tests.{both-true}
 use Rattle.command.specs.declared.Cipher.{Cipher}
 use Rattle.command.specs.declared.Cipher.the-variants.{Zuc, Rabbit, Snow128, Snow256, Kcipher2, Mugi}
 use Rattle.command.specs.Decode.{numberOf}
-use Rattle.card_checks.proofs.Between.{both-false}
+use Rattle.ciphers.proofs.Tests.{both-false}
 use Rattle.machine.specs.Machine.{spareUsed}
 use Rattle.card_keys.specs.Keys.{keyCode}
 

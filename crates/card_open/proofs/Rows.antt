@@ -11,11 +11,10 @@ use borrow.Author.Tests.{lt-leb, le-leb, eq-eqb, ne-eqb}
 use Rattle.words.specs.Tests.{both}
 use Rattle.card_sizes.specs.Sizes.{stateWords}
 use Rattle.ciphers.specs.Table.{cipherAt}
-use Rattle.ciphers.proofs.Tests.{both-true}
+use Rattle.ciphers.proofs.Tests.{both-true, both-false}
 use Rattle.command.specs.declared.Cipher.{Cipher}
 use Rattle.command.specs.declared.Cipher.the-variants.{Zuc, Rabbit, Snow128, Snow256, Kcipher2, Mugi}
 use Rattle.command.specs.Decode.{numberOf}
-use Rattle.card_checks.proofs.Between.{both-false}
 use Rattle.machine.specs.Machine.{Line, shown, trayOk, opened}
 use Rattle.machine.proofs.OneStream.{opened-shown}
 use Rattle.card_layout.proofs.Lines.{Plain}

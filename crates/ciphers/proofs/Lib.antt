@@ -2,3 +2,4 @@ pub mod Tests
 pub mod States
 pub mod Sound
 pub mod Numbers
+pub mod Along

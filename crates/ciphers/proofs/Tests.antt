@@ -16,3 +16,7 @@ both-right false b h = absurd (let z : _≡_ {A = ℕ} 0 1 = cc in omega arith)
 
 pub both-true : {a b : Bool} → a ≡ true → b ≡ true → both a b ≡ true
 both-true h k = rw (h, k)
+
+pub both-false : (a b : Bool) → b ≡ false → both a b ≡ false
+both-false true b h = h
+both-false false b h = refl

@@ -6,68 +6,66 @@ ghost use Rattle.ciphers.specs.Table.{cipherAt};
 ghost use Rattle.ciphers.specs.Columns.{columnsBy, columnsOf};
 use command::Cipher;
 
-// The number of a cipher.
-pub fn number_of(c: Cipher) -> u8
-    ensures { λ r. ⌜ r ≡ numberOf c ⌝ }
-{
-    match c {
-        Cipher::Zuc => 1,
-        Cipher::Rabbit => 2,
-        Cipher::Snow128 => 3,
-        Cipher::Snow256 => 4,
-        Cipher::Kcipher2 => 5,
-        Cipher::Mugi => 6,
-    }
-}
-
-// What is read of a cipher's row, in bytes: its key, its IV and its unit.
+// What is read of a cipher's row: its number and, in bytes, its key, its IV and its unit.
 pub struct Columns {
+    pub number: u8,
     pub key: usize,
     pub iv: usize,
     pub unit: usize,
 }
 
-fn lengths(key: usize, iv: usize, unit: usize) -> Columns
-    ensures { λ r. ⌜ r ≡ columnsBy key iv unit ⌝ }
+fn entries(number: u8, key: usize, iv: usize, unit: usize) -> Columns
+    ensures { λ r. ⌜ r ≡ columnsBy number key iv unit ⌝ }
 {
-    Columns { key, iv, unit }
-}
-
-// The columns of a number's row; where no cipher has the number, the last row's.
-fn row(c: u8) -> Columns
-    ensures { λ r. ⌜ r ≡ columnsOf (cipherAt c) ⌝ }
-{
-    match c {
-        1 => lengths(16, 16, 4),
-        2 => lengths(16, 8, 16),
-        3 => lengths(16, 16, 4),
-        4 => lengths(32, 16, 4),
-        5 => lengths(16, 16, 8),
-        _ => lengths(16, 16, 8),
+    Columns {
+        number,
+        key,
+        iv,
+        unit,
     }
 }
 
-// The bytes of a cipher's key.
+// The columns of a cipher's row.
+fn row(c: Cipher) -> Columns
+    ensures { λ r. ⌜ r ≡ columnsOf c ⌝ }
+{
+    match c {
+        Cipher::Zuc => entries(1, 16, 16, 4),
+        Cipher::Rabbit => entries(2, 16, 8, 16),
+        Cipher::Snow128 => entries(3, 16, 16, 4),
+        Cipher::Snow256 => entries(4, 32, 16, 4),
+        Cipher::Kcipher2 => entries(5, 16, 16, 8),
+        Cipher::Mugi => entries(6, 16, 16, 8),
+    }
+}
+
+// The number of a cipher.
+pub fn number_of(c: Cipher) -> u8
+    ensures { λ r. ⌜ r ≡ numberOf c ⌝ }
+{
+    let r = row(c);
+    r.number
+}
+
+// The bytes of its key.
 pub fn key_of(c: Cipher) -> usize
     ensures { λ r. ⌜ r ≡ cipherAt (numberOf c) .key ⌝ }
 {
-    let number = number_of(c);
-    let r = row(number);
+    let r = row(c);
     r.key
 }
 
-// The bytes of a cipher's IV.
+// The bytes of its IV.
 pub fn iv_of(c: Cipher) -> usize
     ensures { λ r. ⌜ r ≡ cipherAt (numberOf c) .iv ⌝ }
 {
-    let number = number_of(c);
-    let r = row(number);
+    let r = row(c);
     r.iv
 }
 
-// The unit of the cipher of a number.
-pub fn unit_of(c: u8) -> usize
-    ensures { λ r. ⌜ r ≡ cipherAt c .gen .unit ⌝ }
+// Its unit.
+pub fn unit_of(c: Cipher) -> usize
+    ensures { λ r. ⌜ r ≡ cipherAt (numberOf c) .gen .unit ⌝ }
 {
     let r = row(c);
     r.unit

@@ -3,28 +3,27 @@
 -- Assumes nothing.
 use mathlib.Core.Path.{_≡_, refl, ap, ap₂, sym, subst, _∙_}
 use mathlib.Core.List.{List, [], _∷_, _++_, append-nil, append-assoc}
-use Prim.Native.Nat.{ℕ, zero, suc, _+_, _-_, _<_, _≤_}
+use Prim.Native.Nat.{ℕ, zero, suc, _+_, _<_, _≤_}
 use native.Mathlib.Omega.{arith}
 use lib.Bits.{xor-shr, xor-mod}
 use lib.ListN.{length, getD, take, drop, length-drop}
 use lib.Pow.{high, low}
 use lib.Seq.{length-take-le, getD-drop, drop-drop, sets, sets-eq}
-use borrow.Rule.Slice.PartMut.{putMid}
 use Rattle.words.specs.Word.{_⊕_, word}
 use Rattle.words.specs.Strings.{wordAt, bytesOf}
 use Rattle.words.specs.Lists.{Byte, Word, tab}
 use Rattle.words.proofs.Ranges.{join-word}
 use Rattle.keystream.specs.Stream.{xorFrom, Did}
 use Rattle.keystream.proofs.Laws.{xorFrom-agree, fill-part}
-use Rattle.keystream.proofs.Parts.{did-end, did-lent, did-length, tail-length}
+use Rattle.keystream.proofs.Parts.{did-end, did-length, tail-length, lentFrom, backFrom, did-four}
 use Rattle.writer.proofs.Stores.{word-stores}
 use Rattle.mugi.specs.declared.Mugi.{Mugi}
 use Rattle.mugi.specs.declared.Four.{Four}
 use Rattle.mugi.specs.Cipher.{block, left, right, strm, next, unit}
 use Rattle.mugi.specs.Steps.{fourOf}
-use Rattle.crypt_mugi.specs.Generator.{gen}
+use Rattle.mugi.specs.Generator.{gen}
 
--- the bytes of a block; what `put_block` and `put` ensure; the part from n on, as it is lent; and a buffer after that part has come back
+-- the bytes of a block; what `put_block` and `put` ensure
 abbrev byte : (l r : ℕ) → ℕ → ℕ
 byte l r j = getD (bytesOf l ++ bytesOf r) j 0
 
@@ -33,12 +32,6 @@ PutBlock y out out' = out' ≡ bytesOf (left y) ++ bytesOf (right y) ++ drop 8 o
 
 abbrev Put : ℕ → (text out out' : List ℕ) → Type 0
 Put z text out out' = out' ≡ xorFrom (byte (left z) (right z)) 0 (take 8 text) ++ drop 8 out
-
-abbrev from : ℕ → List ℕ → List ℕ
-from n l = take (length l - n) (drop n l)
-
-abbrev back : ℕ → List ℕ → List ℕ → List ℕ
-back n l part = putMid n (length l - n) l part
 
 -- byte i of either word in the block
 in-left : (l r i : ℕ) → i < 4 → getD (bytesOf l) (0 + i) 0 ≡ byte l r (0 + i)
@@ -122,34 +115,27 @@ did-unit {s} {z = z} {text} {out} {out'} h k w e =
 
 -- four blocks of a state's, each in the part after those before it
 module _ (s : Mugi) (r : Four) (e : r ≡ fourOf s) (text out : List ℕ) {o1 o2 o3 : List ℕ} (in-text : 32 ≤ length text) (in-out : 32 ≤ length out)
-    (w1 : Put (getD (r .z) 0 0) text out o1) (w2 : Put (getD (r .z) 1 0) (from 8 text) (from 8 o1) o2)
-    (w3 : Put (getD (r .z) 2 0) (from 16 text) (from 16 (back 8 o1 o2)) o3) where
-  abbrev t2 : Mugi
-  t2 = next (next s)
+    (w1 : Put (getD (r .z) 0 0) text out o1) (w2 : Put (getD (r .z) 1 0) (lentFrom 8 text) (lentFrom 8 o1) o2)
+    (w3 : Put (getD (r .z) 2 0) (lentFrom 16 text) (lentFrom 16 (backFrom 8 o1 o2)) o3) where
+  abbrev d1 : Did gen 0 s 8 text out (next s) o1
+  unfolding fourOf
+  d1 = did-unit (omega arith) (ap (λ (x : Four). getD (x .z) 0 0) e) w1 refl
 
-  abbrev t3 : Mugi
-  t3 = next t2
+  abbrev d2 : Did gen 0 (next s) 8 (lentFrom 8 text) (lentFrom 8 o1) (next (next s)) o2
+  unfolding fourOf
+  d2 = did-unit (omega (arith, tail-length 8 text)) (ap (λ (x : Four). getD (x .z) 1 0) e) w2 refl
 
-  three : Did gen 0 s 24 text out t3 (back 16 (back 8 o1 o2) o3)
-  unfolding gen fourOf
-  three =
-      did-lent gen (omega arith) (omega arith) (omega arith) refl
-      (did-lent gen (omega arith) (omega arith) (omega arith) refl
-      (did-unit (omega arith) (ap (λ (x : Four). getD (x .z) 0 0) e) w1 refl)
-      (did-unit (omega (arith, tail-length 8 text)) (ap (λ (x : Four). getD (x .z) 1 0) e) w2 refl))
-      (did-unit (omega (arith, tail-length 16 text)) (ap (λ (x : Four). getD (x .z) 2 0) e) w3 refl)
+  abbrev d3 : Did gen 0 (next (next s)) 8 (lentFrom 16 text) (lentFrom 16 (backFrom 8 o1 o2)) (next (next (next s))) o3
+  unfolding fourOf
+  d3 = did-unit (omega (arith, tail-length 16 text)) (ap (λ (x : Four). getD (x .z) 2 0) e) w3 refl
 
-  pub three-length : length (back 16 (back 8 o1 o2) o3) ≡ length out
-  unfolding gen
-  three-length = did-length gen (omega arith) (omega arith) (omega arith) three
-
-  module _ {o4 : List ℕ} (w4 : Put (getD (r .z) 3 0) (from 24 text) (from 24 (back 16 (back 8 o1 o2) o3)) o4) where
-    pub did-four : Did gen 0 s 32 text out (r .after) (back 24 (back 16 (back 8 o1 o2) o3) o4)
+  module _ {o4 : List ℕ} (w4 : Put (getD (r .z) 3 0) (lentFrom 24 text) (lentFrom 24 (backFrom 16 (backFrom 8 o1 o2) o3)) o4) where
+    pub done : Did gen 0 s 32 text out (r .after) (backFrom 24 (backFrom 16 (backFrom 8 o1 o2) o3) o4)
     unfolding gen fourOf
-    did-four =
-        did-lent gen (omega arith) in-text in-out refl three
+    done =
+        did-four gen 8 (omega arith) refl in-text in-out d1 d2 d3
         (did-unit (omega (arith, tail-length 24 text)) (ap (λ (x : Four). getD (x .z) 3 0) e) w4 (ap (λ (x : Four). x .after) e))
 
-    pub four-length : length (back 24 (back 16 (back 8 o1 o2) o3) o4) ≡ length out
+    pub done-length : length (backFrom 24 (backFrom 16 (backFrom 8 o1 o2) o3) o4) ≡ length out
     unfolding gen
-    four-length = did-length gen (omega arith) in-text in-out did-four
+    done-length = did-length gen (omega arith) in-text in-out done

@@ -8,7 +8,7 @@ ghost use Rattle.words.specs.Strings.{bytesOf};
 ghost use Rattle.keystream.specs.Stream.{stateAt, byteAt, xorFrom, Did};
 ghost use Rattle.mugi.specs.Tables.{mixingList};
 ghost use Rattle.mugi.specs.Cipher.{left as leftOf, right as rightOf};
-ghost use Rattle.crypt_mugi.specs.Generator.{gen};
+ghost use Rattle.mugi.specs.Generator.{gen};
 use mugi::Mugi;
 use mugi::join;
 use mugi::left;

@@ -6,7 +6,7 @@ ghost use Prim.Native.Nat.{_+_, _/_, _≤_, _<_};
 ghost use lib.ListN.{length, drop};
 ghost use Rattle.keystream.specs.Stream.{stateAt, byteAt, xorFrom, Did};
 ghost use Rattle.snow2.specs.Tables.{Lent};
-ghost use Rattle.crypt_snow2.specs.Generator.{gen};
+ghost use Rattle.snow2.specs.Generator.{gen};
 use snow2::Snow2;
 
 // A whole unit, which goes to the start of out.

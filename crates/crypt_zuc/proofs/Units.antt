@@ -3,25 +3,18 @@
 -- Assumes nothing.
 use mathlib.Core.Path.{_≡_, refl}
 use mathlib.Core.List.{List, _++_}
-use Prim.Native.Nat.{ℕ, _-_, _≤_}
+use Prim.Native.Nat.{ℕ, _≤_}
 use native.Mathlib.Omega.{arith}
 use lib.ListN.{length, getD, take, drop}
-use borrow.Rule.Slice.PartMut.{putMid}
 use Rattle.keystream.specs.Stream.{xorFrom, Did}
-use Rattle.keystream.proofs.Parts.{did-end, did-lent, did-length, tail-length}
+use Rattle.keystream.proofs.Parts.{did-end, did-length, tail-length, lentFrom, backFrom, three-length, did-four}
 use Rattle.zuc.specs.declared.Zuc.{Zuc}
 use Rattle.zuc.specs.Cipher.{next, unit}
-use Rattle.crypt_zuc.specs.Generator.{gen}
+use Rattle.zuc.specs.Generator.{gen}
 
--- what `put` ensures; the part from n on, as it is lent; and a buffer after that part has come back
+-- what `put` ensures
 abbrev Put : Zuc → (text out out' : List ℕ) → Type 0
 Put s text out out' = out' ≡ xorFrom (λ j. getD (unit s) j 0) 0 (take 4 text) ++ drop 4 out
-
-abbrev from : ℕ → List ℕ → List ℕ
-from n l = take (length l - n) (drop n l)
-
-abbrev back : ℕ → List ℕ → List ℕ → List ℕ
-back n l part = putMid n (length l - n) l part
 
 pub did-unit : {s s' : Zuc} {text out out' : List ℕ} → 4 ≤ length text → Put s text out out' → s' ≡ next s → Did gen 0 s 4 text out s' out'
 unfolding gen
@@ -29,25 +22,26 @@ did-unit {s} {text = text} {out} {out'} h w e = did-end gen (omega arith) 0 4 s 
 
 module _ (s : Zuc) (text out : List ℕ) {s1 s2 s3 : Zuc} {o1 o2 o3 : List ℕ} (in-text : 16 ≤ length text) (in-out : 16 ≤ length out)
     (w1 : Put s text out o1) (e1 : s1 ≡ next s)
-    (w2 : Put s1 (from 4 text) (from 4 o1) o2) (e2 : s2 ≡ next s1)
-    (w3 : Put s2 (from 8 text) (from 8 (back 4 o1 o2)) o3) (e3 : s3 ≡ next s2) where
-  three : Did gen 0 s 12 text out s3 (back 8 (back 4 o1 o2) o3)
+    (w2 : Put s1 (lentFrom 4 text) (lentFrom 4 o1) o2) (e2 : s2 ≡ next s1)
+    (w3 : Put s2 (lentFrom 8 text) (lentFrom 8 (backFrom 4 o1 o2)) o3) (e3 : s3 ≡ next s2) where
+  abbrev d1 : Did gen 0 s 4 text out s1 o1
+  d1 = did-unit (omega arith) w1 e1
+
+  abbrev d2 : Did gen 0 s1 4 (lentFrom 4 text) (lentFrom 4 o1) s2 o2
+  d2 = did-unit (omega (arith, tail-length 4 text)) w2 e2
+
+  abbrev d3 : Did gen 0 s2 4 (lentFrom 8 text) (lentFrom 8 (backFrom 4 o1 o2)) s3 o3
+  d3 = did-unit (omega (arith, tail-length 8 text)) w3 e3
+
+  pub room : length (backFrom 8 (backFrom 4 o1 o2) o3) ≡ length out
   unfolding gen
-  three =
-      did-lent gen (omega arith) (omega arith) (omega arith) refl
-      (did-lent gen (omega arith) (omega arith) (omega arith) refl
-      (did-unit (omega arith) w1 e1) (did-unit (omega (arith, tail-length 4 text)) w2 e2))
-      (did-unit (omega (arith, tail-length 8 text)) w3 e3)
+  room = three-length gen 4 (omega arith) refl in-text in-out d1 d2 d3
 
-  pub three-length : length (back 8 (back 4 o1 o2) o3) ≡ length out
-  unfolding gen
-  three-length = did-length gen (omega arith) (omega arith) (omega arith) three
-
-  module _ {s4 : Zuc} {o4 : List ℕ} (w4 : Put s3 (from 12 text) (from 12 (back 8 (back 4 o1 o2) o3)) o4) (e4 : s4 ≡ next s3) where
-    pub did-four : Did gen 0 s 16 text out s4 (back 12 (back 8 (back 4 o1 o2) o3) o4)
+  module _ {s4 : Zuc} {o4 : List ℕ} (w4 : Put s3 (lentFrom 12 text) (lentFrom 12 (backFrom 8 (backFrom 4 o1 o2) o3)) o4) (e4 : s4 ≡ next s3) where
+    pub done : Did gen 0 s 16 text out s4 (backFrom 12 (backFrom 8 (backFrom 4 o1 o2) o3) o4)
     unfolding gen
-    did-four = did-lent gen (omega arith) in-text in-out refl three (did-unit (omega (arith, tail-length 12 text)) w4 e4)
+    done = did-four gen 4 (omega arith) refl in-text in-out d1 d2 d3 (did-unit (omega (arith, tail-length 12 text)) w4 e4)
 
-    pub four-length : length (back 12 (back 8 (back 4 o1 o2) o3) o4) ≡ length out
+    pub done-length : length (backFrom 12 (backFrom 8 (backFrom 4 o1 o2) o3) o4) ≡ length out
     unfolding gen
-    four-length = did-length gen (omega arith) in-text in-out did-four
+    done-length = did-length gen (omega arith) in-text in-out done

@@ -7,7 +7,7 @@ ghost use lib.ListN.{length, take, drop, getD};
 ghost use Rattle.keystream.specs.Stream.{stateAt, byteAt, xorFrom, Did};
 ghost use Rattle.zuc.specs.Tables.{Lent};
 ghost use Rattle.zuc.specs.Cipher.{unit as unitOf};
-ghost use Rattle.crypt_zuc.specs.Generator.{gen};
+ghost use Rattle.zuc.specs.Generator.{gen};
 use zuc::Zuc;
 
 // The first four bytes of text, with those of the unit of st, go to the start of out.

@@ -1,11 +1,5 @@
 // What a line does by its cipher: S(0) of key and IV, and a crypt from a byte of a unit on, each over the line's words.
 // A caller holds the lengths of key and IV, a state that the cipher admits, a place within a unit, and a buffer as long as the text.
-mod kcipher2_words;
-mod lent;
-mod mugi_words;
-mod rabbit_words;
-mod snow2_words;
-mod zuc_words;
 
 ghost use mathlib.Core.Path.{_≡_};
 ghost use mathlib.Core.Bool.{true};
@@ -37,17 +31,17 @@ pub fn open(c: Cipher, key: &[u8], iv: &[u8]) -> [u32; STATE]
 
 // The text goes to the start of out, XORed with the keystream from byte skip of the unit of the words' state on; w then holds the state of the unit in which
 // the next byte lies.
-pub fn crypt(c: u8, w: &mut [u32], skip: usize, text: &[u8], out: &mut [u8])
-    requires { ⌜ (length (now w) ≡ stateWords) × (cipherAt c .admits (now w) ≡ true) ⌝ }
-    requires { ⌜ (skip < cipherAt c .gen .unit) × (length (now text) ≤ length (now out)) ⌝ }
-    ensures { λ _. ⌜ (now (w .exit) ≡ stateAt (cipherAt c .gen) (now (w .entry)) 0 ((skip + length (now (text .entry))) / cipherAt c .gen .unit)) × (now (out .exit) ≡ xorFrom (byteAt (cipherAt c .gen) (now (w .entry)) 0) skip (now (text .entry)) ++ drop (length (now (text .entry))) (now (out .entry))) ⌝ }
+pub fn crypt(c: Cipher, w: &mut [u32], skip: usize, text: &[u8], out: &mut [u8])
+    requires { ⌜ (length (now w) ≡ stateWords) × (cipherAt (numberOf c) .admits (now w) ≡ true) ⌝ }
+    requires { ⌜ (skip < cipherAt (numberOf c) .gen .unit) × (length (now text) ≤ length (now out)) ⌝ }
+    ensures { λ _. ⌜ (now (w .exit) ≡ stateAt (cipherAt (numberOf c) .gen) (now (w .entry)) 0 ((skip + length (now (text .entry))) / cipherAt (numberOf c) .gen .unit)) × (now (out .exit) ≡ xorFrom (byteAt (cipherAt (numberOf c) .gen) (now (w .entry)) 0) skip (now (text .entry)) ++ drop (length (now (text .entry))) (now (out .entry))) ⌝ }
 {
     match c {
-        1 => zuc_words::xor_text(w, skip, text, out),
-        2 => rabbit_words::xor_text(w, skip, text, out),
-        3 => snow2_words::xor_text(w, skip, text, out),
-        4 => snow2_words::xor_text(w, skip, text, out),
-        5 => kcipher2_words::xor_text(w, skip, text, out),
-        _ => mugi_words::xor_text(w, skip, text, out),
+        Cipher::Zuc => zuc_words::xor_text(w, skip, text, out),
+        Cipher::Rabbit => rabbit_words::xor_text(w, skip, text, out),
+        Cipher::Snow128 => snow2_words::xor_text(w, skip, text, out),
+        Cipher::Snow256 => snow2_words::xor_text(w, skip, text, out),
+        Cipher::Kcipher2 => kcipher2_words::xor_text(w, skip, text, out),
+        Cipher::Mugi => mugi_words::xor_text(w, skip, text, out),
     }
 }

@@ -14,7 +14,8 @@ use Rattle.machine.specs.OneStream.{GoesOn}
 use Rattle.machine.proofs.Lines.{good-open, good-behind, Good}
 use Rattle.machine.proofs.Images.{image-goes-on}
 use Rattle.machine.proofs.OneStream.{sized}
-use Rattle.edges.specs.Table.{Row, table, crypting, parking, opening}
+use Rattle.cases.specs.Table.{Row}
+use Rattle.edges.specs.Table.{table, crypting, parking, opening}
 
 pub edges : map (λ (r : Row). r .computed) table ≡ map (λ (r : Row). r .stated) table
 unfolding table crypting parking opening decided refuseIf lengthOf spareUsed cipherAt zuc rabbit snow128 snow256 kcipher2 mugi

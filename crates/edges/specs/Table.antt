@@ -5,15 +5,8 @@ use Prim.Native.Nat.{ℕ, _-_, _^_}
 use lib.ListN.{replicate}
 use Rattle.command.specs.declared.Cipher.the-variants.{Zuc}
 use Rattle.command.specs.declared.Command.the-variants.{Tray, Crypt, Park}
+use Rattle.cases.specs.Table.{Row, _is_}
 use Rattle.machine.specs.Machine.{Public, Effect, refuse, put, crypt, park, decided, noView}
-
-pub record Row : Type 0 where
-  pub computed : ℕ
-  pub stated : ℕ
-
-infix 60 _is_
-abbrev pub _is_ : ℕ → ℕ → Row
-a is b = record { computed = a; stated = b }
 
 -- a refusal's number, and 0 of an accepted command
 abbrev codeOf : Effect → ℕ

@@ -119,6 +119,17 @@ module _ {S : Type 0} (g : Gen S) (pos : zero < g .unit) where
           out-is = within (omega arith);
         }
 
+  -- the same of a piece that was written from the unit's bytes
+  module _ (n k : ℕ) (s : S) (text out out' ks : List ℕ) (is-unit : ks ≡ g .strm s) (fits : k ≤ length text) (written : out' ≡ xorFrom (λ j. getD ks j 0) n (take k text) ++ drop k out) where
+    at : (i : ℕ) → i < g .unit → getD ks i 0 ≡ getD (g .strm s) i 0
+    at i h = ap (λ (x : List ℕ). getD x i 0) is-unit
+
+    pub part-end : {s' : S} → n + k ≡ g .unit → s' ≡ g .next s → Did g n s k text out s' out'
+    part-end = did-end n k s text out out' (λ j. getD ks j 0) at fits written
+
+    pub part-within : n + k < g .unit → Did g n s k text out s out'
+    part-within = did-within n k s text out out' (λ j. getD ks j 0) at fits written
+
   -- a piece, and one more from where it ended, which wrote the buffer's rest
   module _ {n a b from : ℕ} {s s1 s2 : S} {text out o1 o2 : List ℕ} where
     pub did-more : a + b ≤ length text → a + b ≤ length out → (n + a) % g .unit ≡ from → Did g n s a text out s1 o1
@@ -182,13 +193,14 @@ module _ {S : Type 0} (g : Gen S) (u : ℕ) (pos : zero < u) (unit-is : g .unit 
     running-start = record { at-most = omega arith; whole = zero-mod u; same-length = refl; did = did-none g unit-pos unit-pos }
 
     -- a turn of k bytes, which are whole units
-    pub running-turn : {out o' : List ℕ} {cur cur' : S} {at : ℕ} (k : ℕ) → k % u ≡ 0 → Running g u s text out₀ out cur at → at + k ≤ length text
+    pub running-turn : {out o' : List ℕ} {cur cur' : S} {at : ℕ} (k : ℕ) → k % u ≡ 0 → Running g u s text out₀ out cur at → k ≤ length text - at
         → Did g 0 cur k (take (length text - at) (drop at text)) (take (length out - at) (drop at out)) cur' o'
         → Running g u s text out₀ (putMid at (length out - at) out o') cur' (at + k)
     running-turn {at = at} k h r q d =
-        let all = did-lent g unit-pos q (omega arith) (aligned unit-is (0 + at) (ap (λ (x : ℕ). x % u) (zero-add at) ∙ r .whole)) (r .did) d in
+        let m = r .at-most in
+        let all = did-lent g unit-pos (omega arith) (omega arith) (aligned unit-is (0 + at) (ap (λ (x : ℕ). x % u) (zero-add at) ∙ r .whole)) (r .did) d in
         record {
-          at-most = q;
+          at-most = omega arith;
           whole = whole-more u at k (r .whole) h;
           same-length = did-length g unit-pos (omega arith) (omega arith) all;
           did = all;
@@ -258,3 +270,47 @@ module _ {S T : Type 0} (g : Gen S) (h : Gen T) (f : S → T) (P : S → Type 0)
       ap (λ (u : ℕ). getD (g .strm (stateAt g s m (j / u))) (j % u) 0) same-unit
       ∙ ap (λ (l : List ℕ). getD l (j % h .unit) 0) (same-strm (stateAt g s m (j / h .unit)) (iter-along (j / h .unit - m) s p .0))
       ∙ ap (λ (t : T). getD (h .strm t) (j % h .unit) 0) (stateAt-along s m (j / h .unit) p)
+
+-- ---- four units, each in the part of the buffer after the one before it
+
+-- `&l[n..]`, as it is lent, and l after that part has come back
+abbrev pub lentFrom : ℕ → List ℕ → List ℕ
+lentFrom n l = take (length l - n) (drop n l)
+
+abbrev pub backFrom : ℕ → List ℕ → List ℕ → List ℕ
+backFrom n l part = putMid n (length l - n) l part
+
+module _ {S : Type 0} (g : Gen S) (u : ℕ) (pos : zero < u) (unit-is : g .unit ≡ u) {s s1 s2 s3 : S} {text out o1 o2 o3 : List ℕ}
+    (in-text : u + u + u + u ≤ length text) (in-out : u + u + u + u ≤ length out)
+    (d1 : Did g 0 s u text out s1 o1)
+    (d2 : Did g 0 s1 u (lentFrom u text) (lentFrom u o1) s2 o2)
+    (d3 : Did g 0 s2 u (lentFrom (u + u) text) (lentFrom (u + u) (backFrom u o1 o2)) s3 o3) where
+  positive : zero < g .unit
+  positive = omega arith
+
+  -- after whole units
+  whole-at : (a : ℕ) → a % u ≡ 0 → (0 + a) % g .unit ≡ 0
+  whole-at a h = aligned unit-is (0 + a) (ap (λ (x : ℕ). x % u) (zero-add a) ∙ h)
+
+  two-units : (u + u) % u ≡ 0
+  two-units = whole-more u u u (mod-self u) (mod-self u)
+
+  three : Did g 0 s (u + u + u) text out s3 (backFrom (u + u) (backFrom u o1 o2) o3)
+  three =
+      did-lent g positive (omega arith) (omega arith) (whole-at (u + u) two-units)
+      (did-lent g positive (omega arith) (omega arith) (whole-at u (mod-self u)) d1 d2) d3
+
+  pub three-length : length (backFrom (u + u) (backFrom u o1 o2) o3) ≡ length out
+  three-length = did-length g positive (omega arith) (omega arith) three
+
+  -- room for the fourth
+  pub fourth : (u ≤ length (lentFrom (u + u + u) text)) × (u ≤ length (lentFrom (u + u + u) (backFrom (u + u) (backFrom u o1 o2) o3)))
+  fourth = (omega (arith, tail-length (u + u + u) text), omega (arith, tail-length (u + u + u) (backFrom (u + u) (backFrom u o1 o2) o3), three-length))
+
+  module _ {s4 : S} {o4 : List ℕ}
+      (d4 : Did g 0 s3 u (lentFrom (u + u + u) text) (lentFrom (u + u + u) (backFrom (u + u) (backFrom u o1 o2) o3)) s4 o4) where
+    pub did-four : Did g 0 s (u + u + u + u) text out s4 (backFrom (u + u + u) (backFrom (u + u) (backFrom u o1 o2) o3) o4)
+    did-four = did-lent g positive in-text in-out (whole-at (u + u + u) (whole-more u (u + u) u two-units (mod-self u))) three d4
+
+    pub four-length : length (backFrom (u + u + u) (backFrom (u + u) (backFrom u o1 o2) o3) o4) ≡ length out
+    four-length = did-length g positive in-text in-out did-four

@@ -2,3 +2,4 @@ pub mod Tables
 pub mod Cipher
 pub mod Steps
 pub mod Range
+pub mod Generator

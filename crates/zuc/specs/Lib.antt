@@ -1,3 +1,4 @@
 pub mod Tables
 pub mod Cipher
 pub mod Range
+pub mod Generator

@@ -14,19 +14,8 @@ Inv-loop s all₀ i₀ all i = Gathered s all i
 abbrev μ-loop : tie.MeasureT-loop
 μ-loop s all₀ i₀ all i = length s - i
 
-loop-holds : tie.Need-loop-holds Inv-loop μ-loop
-loop-holds c = (search needs, refl)
-
-loop-again : tie.Need-loop-again Inv-loop μ-loop
-loop-again c =
-    let p = c .before .before in
-    gathered-more (p .before .args .s .now) (p .loop .all) (p .loop .i) (search needs) (p .loop .inv)
-
-returns : tie.Need-returns Inv-loop μ-loop
-returns c =
-    let p = c .before in
-    gathered-all (p .before .args .s .now) (p .loop .all) (p .loop .i) (c .loop-test .left) (p .loop .inv)
-
 pub all-zero-spec : {M : Type 1} → statement M
 all-zero-spec =
-    tie.close (tie.spec Inv-loop μ-loop loop-holds (search needs) (search needs) (search needs) loop-again returns)
+    tie.close (tie.spec Inv-loop μ-loop (λ c. (search needs, refl)) (search needs) (search needs) (search needs)
+    (λ c. let p = c .before .before in gathered-more (p .before .args .s .now) (p .loop .all) (p .loop .i) (search needs) (p .loop .inv))
+    (λ c. let p = c .before in gathered-all (p .before .args .s .now) (p .loop .all) (p .loop .i) (c .loop-test .left) (p .loop .inv)))

@@ -1,42 +1,50 @@
 -- `card_checks::open_with` meets its contract: the answers follow the tests in their order.
 -- Assumes nothing.
-use mathlib.Core.Path.{ap, sym, _∙_}
+use mathlib.Core.Path.{ap, ap₂, sym, _∙_}
+use mathlib.Core.Bool.{Bool}
+use mathlib.Core.List.{List}
+use Prim.Native.Nat.{ℕ}
 use native.Mathlib.Omega.{arith}
+use lib.Dec.{leb}
 use lib.Seq.{length-take-le, take-all}
-use Rattle.ciphers.specs.Table.{cipherAt}
 use borrow.Author.Tests.{le-leb, lt-leb}
-use Rattle.machine.specs.Machine.{openOk}
-use Rattle.card_checks.proofs.Between.{zero-fails, above-fails, between-passes}
+use Rattle.words.specs.Tests.{both}
+use Rattle.card_sizes.specs.Sizes.{stateWords}
+use Rattle.ciphers.specs.Table.{isCipher, cipherAt}
+use Rattle.ciphers.proofs.Tests.{both-false}
+use Rattle.ciphers.proofs.Numbers.{read-none, read-is}
+use Rattle.machine.specs.Machine.{limit, openOk}
 use borrow.Author.Needs.{needs}
 use Rattle.card_checks.proofs.open_with.Statement.{statement}
 use Rattle.card_checks.proofs.open_with.Tie as tie
 
 returns : tie.Need-returns
 unfolding openOk
-returns c = rw (zero-fails 6 _ (c .if1 .taken))
+returns c =
+    let a = c .before .before .args in
+    let m = cipherAt (a .c) .admits (a .w .now) in
+    sym (both-false (isCipher (a .c)) (both (leb (a .n) limit) m) (ap (λ (b : Bool). both b m) (lt-leb (a .n) limit (c .if1 .taken))))
 
 returns-2 : tie.Need-returns-2
 unfolding openOk
-returns-2 c = rw (above-fails 6 _ (c .if2 .taken))
+returns-2 c = rw (read-none _ (sym (c .before .before .read-cipher .ensures) ∙ c .enum-told .given .1))
+
+slice-aggregate-admits : tie.Need-slice-aggregate-admits
+unfolding openOk
+slice-aggregate-admits c = let s = c .before .before .before .before .before .before .before in sym (length-take-le stateWords (s .args .w .now) (omega (arith, s .pre)))
+
+admits-requires : tie.Need-admits-requires
+unfolding openOk
+admits-requires c κs = let s = c .before .before .before .before .before .before .before in length-take-le stateWords (s .args .w .now) (omega (arith, s .pre))
 
 returns-3 : tie.Need-returns-3
 unfolding openOk
-returns-3 c = rw (between-passes 6 _ (c .before .before .if1 .left) (c .before .if2 .left), lt-leb _ _ (c .if3 .taken))
-
-slice-aggregate-admits : tie.Need-slice-aggregate-admits
-slice-aggregate-admits c = let s = c .before .before .before .before .before in sym (length-take-le 38 (s .args .w .now) (omega (arith, s .pre)))
-
-admits-requires : tie.Need-admits-requires
-admits-requires c κs = let s = c .before .before .before .before .before in length-take-le 38 (s .args .w .now) (omega (arith, s .pre))
-
-returns-4 : tie.Need-returns-4
-unfolding openOk
-returns-4 c =
-    let e = c .before .before in
-    let s = e .before .before .before .before in
-    rw (between-passes 6 _ (e .before .before .if1 .left) (e .before .if2 .left), le-leb _ _ (e .if3 .left))
-    (c .admits .ensures ∙ ap (cipherAt (s .args .c) .admits) (take-all 38 (s .args .w .now) (omega (arith, s .pre))))
+returns-3 c =
+    let t = c .before .before .before in
+    let e = t .before .before .before in
+    let s = e .before .before in
+    let i = read-is _ (sym (t .before .before .read-cipher .ensures) ∙ t .cipher .given .1) in
+    rw (i .1, le-leb _ _ (e .if1 .left)) (c .admits .ensures ∙ ap₂ (λ (k : ℕ) (l : List ℕ). cipherAt k .admits l) (sym (i .0)) (take-all stateWords (s .args .w .now) (omega (arith, s .pre))))
 
 pub open-with-spec : {M : Type 1} → statement M
-open-with-spec =
-    tie.close (tie.spec returns returns-2 returns-3 slice-aggregate-admits admits-requires returns-4)
+open-with-spec = tie.close (tie.spec returns (λ c κs. search needs) (λ c. search needs) (λ c. search needs) returns-2 slice-aggregate-admits admits-requires returns-3)

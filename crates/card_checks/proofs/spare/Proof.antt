@@ -7,10 +7,5 @@ use borrow.Author.Needs.{needs}
 use Rattle.card_checks.proofs.spare.Statement.{statement}
 use Rattle.card_checks.proofs.spare.Tie as tie
 
-returns : tie.Need-returns
-returns c =
-    let a = c .before .before .before .args in
-    c .words-zero .ensures ∙ ap allZero (tail-part (a .k) (a .w .now))
-
 pub spare-spec : {M : Type 1} → statement M
-spare-spec = tie.close (tie.spec (λ c. search needs) (λ c. search needs) (λ c. search needs) (λ c. search needs) (λ c κs. search needs) returns)
+spare-spec = tie.close (tie.spec (λ c. search needs) (λ c. search needs) (λ c. search needs) (λ c. search needs) (λ c κs. search needs) (λ c. let a = c .before .before .before .args in c .words-zero .ensures ∙ ap allZero (tail-part (a .k) (a .w .now))))

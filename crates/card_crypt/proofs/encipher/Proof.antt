@@ -5,34 +5,51 @@ use mathlib.Core.List.{List, _++_}
 use Prim.Native.Nat.{ℕ, _+_}
 use native.Mathlib.Omega.{arith}
 use lib.ListN.{length, take, drop}
+use Rattle.command.specs.declared.Cipher.{Cipher}
+use Rattle.command.specs.Decode.{numberOf}
+use Rattle.ciphers.specs.Table.{isCipher}
+use Rattle.ciphers.proofs.Numbers.{read-none, read-is}
 use Rattle.card_sizes.specs.Sizes.{stateWords, headWords, lineSize}
 use Rattle.machine.specs.Machine.{Line, openOk, based, shown, moved, enciphered}
 use Rattle.card_layout.specs.Words.{lineIn, lineWords}
 use Rattle.card_layout.proofs.Lines.{state-slice, head-back}
 use Rattle.card_crypt.specs.Crypted.{Crypted}
-use Rattle.card_crypt.proofs.Crypts.{crypted-line, open-admits, unit-up, place-within}
+use Rattle.card_crypt.proofs.Crypts.{crypted-line, open-admits, never, unit-up, place-within}
 use borrow.Author.Needs.{needs}
 use Rattle.card_crypt.proofs.encipher.Statement.{statement}
 use Rattle.card_crypt.proofs.encipher.Tie as tie
 
+-- an open line's byte names a cipher
+returns : tie.Need-returns
+returns c =
+    let s = c .before .before .before .before .before .before .before .before .before .before in
+    absurd (never _ (s .pre .0 .1 .1) (ap isCipher (sym (c .before .before .before .before .before .cipher-of .ensures)) ∙ read-none _ (sym (c .before .before .read-cipher .ensures) ∙ c .enum-told .given .1)))
+
 -- ---- once the line is read
 
 abbrev start : tie.After-unit-of → tie.Start
-start p = p .before .before .before .before .before .before .before .before
+start p = p .before .before .before .before .before .before .before .before .before .before .before .before
 
 abbrev line : tie.After-unit-of → List ℕ
 line p = start p .args .line .now
 
+-- the cipher that the line's byte names
+abbrev named : tie.After-unit-of → Cipher
+named p = p .before .before .c .given .0 .0
+
+is-named : (p : tie.After-unit-of) → p .before .before .before .before .before .before .before .cipher-of .result ≡ numberOf (named p)
+is-named p = read-is _ (sym (p .before .before .before .before .read-cipher .ensures) ∙ p .before .before .c .given .1) .0
+
 abbrev read : tie.After-unit-of → Line
-read p = record { mode = 1; cipher = p .before .before .before .cipher-of .result; n = p .before .position-of .result; words = take stateWords (drop headWords (line p)) }
+read p = record { mode = 1; cipher = numberOf (named p); n = p .before .before .before .before .before .position-of .result; words = take stateWords (drop headWords (line p)) }
 
 is-line : (p : tie.After-unit-of) → read p ≡ lineIn (line p)
 is-line p =
     let s = start p in
     λ j. record {
       mode = sym (s .pre .0 .1 .0) j;
-      cipher = p .before .before .before .cipher-of .ensures j;
-      n = p .before .position-of .ensures .0 j;
+      cipher = (sym (is-named p) ∙ p .before .before .before .before .before .before .before .cipher-of .ensures) j;
+      n = p .before .before .before .before .before .position-of .ensures .0 j;
       words = state-slice (line p) (s .pre .0 .0) j;
     }
 
@@ -46,8 +63,8 @@ crypt-requires c κs =
     let n : length (take stateWords (drop headWords (line p))) ≡ stateWords = search needs in
     ((n, open-admits (read p) (ap openOk (is-line p) ∙ s .pre .0 .1 .1)), (place-within (read p .cipher) (read p .n) _ (p .unit-of .ensures), s .pre .1 .1))
 
-returns : tie.Need-returns
-returns c =
+returns-2 : tie.Need-returns-2
+returns-2 c =
     let h = c .before .before in
     let k = h .before .before .before .before .before .before in
     let p = k .before .before .before in
@@ -57,9 +74,10 @@ returns c =
     let o = k .crypt .last .1 .1 .1 .1 .0 in
     let n : length w ≡ stateWords = search needs in
     let g = crypted-line (read p) _ (p .unit-of .ensures) (a .text .now) (a .out .now) w o (k .crypt .ensures .0) (k .crypt .ensures .1) in
-    let t = head-back 1 (read p .cipher) (read p .n + length (a .text .now)) w (line p) _ (s .pre .0 .0) n (h .put-head .ensures) in
-    let e : record { mode = 1; cipher = read p .cipher; n = read p .n + length (a .text .now); words = w } ≡ shown (moved (based (lineIn (line p))) (length (a .text .now))) =
-    g .0 ∙ ap (λ (l : Line). shown (moved (based l) (length (a .text .now)))) (is-line p) in
+    let b = p .before .before .before .before .before .before .before .cipher-of .result in
+    let t = head-back 1 b (read p .n + length (a .text .now)) w (line p) _ (s .pre .0 .0) n (h .put-head .ensures) in
+    let e : record { mode = 1; cipher = b; n = read p .n + length (a .text .now); words = w } ≡ shown (moved (based (lineIn (line p))) (length (a .text .now))) =
+    ap (λ (x : ℕ). record { mode = 1; cipher = x; n = read p .n + length (a .text .now); words = w }) (is-named p) ∙ g .0 ∙ ap (λ (l : Line). shown (moved (based l) (length (a .text .now)))) (is-line p) in
     record {
       words-are = t ∙ ap lineWords e;
       full = sym (ap (λ (l : Line). length (l .words)) e) ∙ n;
@@ -68,5 +86,5 @@ returns c =
 
 pub encipher-spec : {M : Type 1} → statement M
 encipher-spec =
-    tie.close (tie.spec (λ c κs. search needs) (λ c κs. search needs) (λ c κs. search needs) rem-skip (λ c. search needs) (λ c. search needs) (λ c. search needs) crypt-requires
-    (λ c. search needs) (λ c κs. search needs) (λ c. search needs) (λ c. search needs) returns)
+    tie.close (tie.spec (λ c κs. search needs) (λ c κs. search needs) (λ c κs. search needs) (λ c. search needs) (λ c. search needs) (λ c. search needs) returns (λ c κs. search needs) rem-skip
+    (λ c. search needs) (λ c. search needs) (λ c. search needs) crypt-requires (λ c. search needs) (λ c κs. search needs) (λ c. search needs) (λ c. search needs) returns-2)

@@ -6,8 +6,5 @@ use borrow.Author.Needs.{needs}
 use Rattle.card_image.proofs.cipher_in.Statement.{statement}
 use Rattle.card_image.proofs.cipher_in.Tie as tie
 
-returns : tie.Need-returns
-returns c = sym (image-cipher _)
-
 pub cipher-in-spec : {M : Type 1} → statement M
-cipher-in-spec = tie.close (tie.spec (search needs) returns)
+cipher-in-spec = tie.close (tie.spec (search needs) (λ c. sym (image-cipher _)))

@@ -5,8 +5,5 @@ use borrow.Author.Needs.{needs}
 use Rattle.card_image.proofs.position_in.Statement.{statement}
 use Rattle.card_image.proofs.position_in.Tie as tie
 
-returns : tie.Need-returns
-returns c = rw (image-position _) cc
-
 pub position-in-spec : {M : Type 1} → statement M
-position-in-spec = tie.close (tie.spec (λ c κs. search needs) (search needs) (λ c κs. search needs) (search needs) (search needs) (search needs) returns)
+position-in-spec = tie.close (tie.spec (λ c κs. search needs) (search needs) (λ c κs. search needs) (search needs) (search needs) (search needs) (λ c. rw (image-position _) cc))

@@ -20,9 +20,6 @@ Inv-loop s w₀ i₀ w i = (i ≤ 38) × (w ≡ tab i (λ k. wordAt s (9 + 4 * k
 abbrev μ-loop : tie.MeasureT-loop
 μ-loop s w₀ i₀ w i = 38 - i
 
-loop-holds : tie.Need-loop-holds Inv-loop μ-loop
-loop-holds c = (search needs, refl)
-
 loop-again : tie.Need-loop-again Inv-loop μ-loop
 loop-again c =
     let p = c .before .before in
@@ -31,10 +28,7 @@ loop-again c =
       rw (c .word-at .ensures, p .loop .inv .1) (fill (p .loop .i) (λ k. wordAt s (9 + 4 * k)) (replicate 38 0) (search needs)),
     )
 
-returns : tie.Need-returns Inv-loop μ-loop
-returns c = let e : c .before .loop .i ≡ 38 = omega arith in rw (c .before .loop .inv .1, e) (sym (image-state _))
-
 pub words-in-spec : {M : Type 1} → statement M
 words-in-spec =
-    tie.close (tie.spec Inv-loop μ-loop loop-holds (search needs) (search needs) (λ c κs. search needs) (search needs)
-    (search needs) (search needs) (search needs) loop-again returns)
+    tie.close (tie.spec Inv-loop μ-loop (λ c. (search needs, refl)) (search needs) (search needs) (λ c κs. search needs) (search needs) (search needs) (search needs) (search needs)
+    loop-again (λ c. let e : c .before .loop .i ≡ 38 = omega arith in rw (c .before .loop .inv .1, e) (sym (image-state _))))

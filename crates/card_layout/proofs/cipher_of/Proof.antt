@@ -5,9 +5,6 @@ use borrow.Author.Needs.{needs}
 use Rattle.card_layout.proofs.cipher_of.Statement.{statement}
 use Rattle.card_layout.proofs.cipher_of.Tie as tie
 
-returns : tie.Need-returns
-unfolding lineIn
-returns c = c .byte .ensures
-
 pub cipher-of-spec : {M : Type 1} → statement M
-cipher-of-spec = tie.close (tie.spec (search needs) (λ c κs. search needs) returns)
+unfolding lineIn
+cipher-of-spec = tie.close (tie.spec (search needs) (λ c κs. search needs) (λ c. c .byte .ensures))

@@ -5,9 +5,6 @@ use borrow.Author.Needs.{needs}
 use Rattle.card_layout.proofs.mode_of.Statement.{statement}
 use Rattle.card_layout.proofs.mode_of.Tie as tie
 
-returns : tie.Need-returns
-unfolding lineIn
-returns c = c .byte .ensures
-
 pub mode-of-spec : {M : Type 1} → statement M
-mode-of-spec = tie.close (tie.spec (search needs) (λ c κs. search needs) returns)
+unfolding lineIn
+mode-of-spec = tie.close (tie.spec (search needs) (λ c κs. search needs) (λ c. c .byte .ensures))

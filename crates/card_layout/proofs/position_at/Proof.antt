@@ -7,11 +7,5 @@ use borrow.Author.Needs.{needs}
 use Rattle.card_layout.proofs.position_at.Statement.{statement}
 use Rattle.card_layout.proofs.position_at.Tie as tie
 
-returns : tie.Need-returns
-returns c =
-    let s = c .before .before .before in
-    c .position-of .ensures .0 ∙ ap (λ (l : Line). l .n) (line-part (s .args .card .now) (s .args .i) (s .pre .1) (s .pre .0))
-
 pub position-at-spec : {M : Type 1} → statement M
-position-at-spec =
-    tie.close (tie.spec (search needs) (search needs) (search needs) (search needs) (search needs) (search needs) (λ c κs. search needs) returns)
+position-at-spec = tie.close (tie.spec (search needs) (search needs) (search needs) (search needs) (search needs) (search needs) (λ c κs. search needs) (λ c. let s = c .before .before .before in c .position-of .ensures .0 ∙ ap (λ (l : Line). l .n) (line-part (s .args .card .now) (s .args .i) (s .pre .1) (s .pre .0))))

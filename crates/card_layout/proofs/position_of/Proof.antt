@@ -9,12 +9,6 @@ use borrow.Author.Needs.{needs}
 use Rattle.card_layout.proofs.position_of.Statement.{statement}
 use Rattle.card_layout.proofs.position_of.Tie as tie
 
-returns : tie.Need-returns
-unfolding lineIn
-returns c =
-    let h = c .before .before .wide .ensures in
-    let l = c .wide2 .ensures in
-    (ap₂ (λ (x y : ℕ). x * 2 ^ 32 + y) (h .0) (l .0), omega (arith, l .0, l .1))
-
 pub position-of-spec : {M : Type 1} → statement M
-position-of-spec = tie.close (tie.spec (search needs) (λ c κs. search needs) (search needs) (λ c κs. search needs) (search needs) (search needs) returns)
+unfolding lineIn
+position-of-spec = tie.close (tie.spec (search needs) (λ c κs. search needs) (search needs) (λ c κs. search needs) (search needs) (search needs) (λ c. let h = c .before .before .wide .ensures in let l = c .wide2 .ensures in (ap₂ (λ (x y : ℕ). x * 2 ^ 32 + y) (h .0) (l .0), omega (arith, l .0, l .1))))

@@ -1,15 +1,10 @@
--- `ciphers::iv_of` meets its contract: it is a column of the row of the cipher's number.
+-- `ciphers::iv_of` meets its contract: it is a column of the cipher's row.
 -- Assumes nothing.
-use mathlib.Core.Path.{ap, _∙_}
-use Prim.Native.Nat.{ℕ}
+use mathlib.Core.Path.{ap}
 use Rattle.ciphers.specs.declared.Columns.{Columns}
-use Rattle.ciphers.specs.Table.{cipherAt}
 use borrow.Author.Needs.{needs}
 use Rattle.ciphers.proofs.iv_of.Statement.{statement}
 use Rattle.ciphers.proofs.iv_of.Tie as tie
 
-returns : tie.Need-returns
-returns c = ap (λ (r : Columns). r .iv) (c .row .ensures) ∙ ap (λ (n : ℕ). cipherAt n .iv) (c .before .number-of .ensures)
-
 pub iv-of-spec : {M : Type 1} → statement M
-iv-of-spec = tie.close (tie.spec (λ c κs. search needs) (λ c κs. search needs) returns)
+iv-of-spec = tie.close (tie.spec (λ c κs. search needs) (λ c. ap (λ (r : Columns). r .iv) (c .row .ensures)))

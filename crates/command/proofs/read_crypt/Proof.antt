@@ -5,11 +5,6 @@ use borrow.Author.Needs.{needs}
 use Rattle.command.proofs.read_crypt.Statement.{statement}
 use Rattle.command.proofs.read_crypt.Tie as tie
 
-returns : tie.Need-returns
-unfolding cryptOf
-returns c = rw (c .wide2 .ensures .0, c .before .before .wide .ensures .0)
-
 pub read-crypt-spec : {M : Type 1} → statement M
-read-crypt-spec =
-    tie.close (tie.spec (search needs) (search needs) (λ c κs. search needs) (search needs) (λ c κs. search needs)
-    (search needs) (search needs) returns)
+unfolding cryptOf
+read-crypt-spec = tie.close (tie.spec (search needs) (search needs) (λ c κs. search needs) (search needs) (λ c κs. search needs) (search needs) (search needs) (λ c. rw (c .wide2 .ensures .0, c .before .before .wide .ensures .0)))

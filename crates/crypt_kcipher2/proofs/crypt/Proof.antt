@@ -8,14 +8,6 @@ use borrow.Author.Needs.{needs}
 use Rattle.crypt_kcipher2.proofs.crypt.Statement.{statement}
 use Rattle.crypt_kcipher2.proofs.crypt.Tie as tie
 
-returns : tie.Need-returns
-unfolding gen
-returns c =
-    let t = c .before .before in
-    let m = t .before .before .before .before .before .before .before in
-    crypted gen 8 (omega arith) refl (m .before .before .before .before .before .before .before .pre .1) (t .turns .ensures)
-
 pub crypt-spec : {M : Type 1} → statement M
-crypt-spec =
-    tie.close (tie.spec (λ c κs. search needs) (λ c κs. search needs) (λ c κs. search needs) (λ c κs. search needs)
-    (λ c κs. search needs) (λ c κs. search needs) (λ c. search needs) returns)
+unfolding gen
+crypt-spec = tie.close (tie.spec (λ c κs. search needs) (λ c κs. search needs) (λ c κs. search needs) (λ c κs. search needs) (λ c κs. search needs) (λ c κs. search needs) (λ c. search needs) (λ c. let t = c .before .before in let m = t .before .before .before .before .before .before .before in crypted gen 8 (omega arith) refl (m .before .before .before .before .before .before .before .pre .1) (t .turns .ensures)))

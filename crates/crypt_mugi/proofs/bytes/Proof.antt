@@ -5,14 +5,6 @@ use borrow.Author.Needs.{needs}
 use Rattle.crypt_mugi.proofs.bytes.Statement.{statement}
 use Rattle.crypt_mugi.proofs.bytes.Tie as tie
 
-returns : tie.Need-returns
-unfolding bytesOf
-returns c =
-    let p = c .before .before in
-    rw (c .bytes2 .ensures, c .before .right .ensures, p .bytes .ensures, p .before .left .ensures)
-
 pub bytes-spec : {M : Type 1} → statement M
-bytes-spec =
-    tie.close (tie.spec (λ c κs. search needs) (λ c κs. search needs) (λ c κs. search needs) (λ c κs. search needs)
-    (search needs) (search needs) (search needs) (search needs) (search needs) (search needs) (search needs)
-    (search needs) returns)
+unfolding bytesOf
+bytes-spec = tie.close (tie.spec (λ c κs. search needs) (λ c κs. search needs) (λ c κs. search needs) (λ c κs. search needs) (search needs) (search needs) (search needs) (search needs) (search needs) (search needs) (search needs) (search needs) (λ c. let p = c .before .before in rw (c .bytes2 .ensures, c .before .right .ensures, p .bytes .ensures, p .before .left .ensures)))

@@ -1,31 +1,38 @@
 -- `crypt_mugi::four` meets its contract: each unit goes on where the one before it ended.
 -- Assumes nothing.
-use Rattle.crypt_mugi.proofs.Units.{did-four, four-length}
+use Rattle.crypt_mugi.proofs.Units.{done, done-length}
 use borrow.Author.Needs.{needs}
 use Rattle.crypt_mugi.proofs.four.Statement.{statement}
 use Rattle.crypt_mugi.proofs.four.Tie as tie
 
+-- ---- the units, one after the other
+
+abbrev three : tie.After-put4 → tie.After-put3
+three p = p .before .before .before .before .before
+
+abbrev two : tie.After-put4 → tie.After-put2
+two p = three p .before .before .before .before .before
+
+abbrev one : tie.After-put4 → tie.After-put
+one p = two p .before .before .before .before .before
+
+abbrev from : tie.After-put4 → tie.After-four
+from p = one p .before .before .before
+
+abbrev start : tie.After-put4 → tie.Start
+start p = from p .before .before .before
+
 same-length : tie.Need-same-length
 same-length c =
-    let p4 = c .before .before .before in
-    let p3 = p4 .before .before .before .before .before in
-    let p2 = p3 .before .before .before .before .before in
-    let p1 = p2 .before .before .before .before .before in
-    let f = p1 .before .before .before in
-    let k = f .before .before .before in
-    four-length (k .args .st) (f .four .result) (f .four .ensures) (k .args .text .now) (k .args .out .now) (k .pre .1 .0) (k .pre .1 .1)
-    (p1 .put .ensures) (p2 .put2 .ensures) (p3 .put3 .ensures) (p4 .put4 .ensures)
+    let p = c .before .before .before in
+    done-length (start p .args .st) (from p .four .result) (from p .four .ensures) (start p .args .text .now) (start p .args .out .now) (start p .pre .1 .0) (start p .pre .1 .1) (one p .put .ensures) (two p .put2 .ensures)
+    (three p .put3 .ensures) (p .put4 .ensures)
 
 returns : tie.Need-returns
 returns c =
-    let p4 = c .before .before .before in
-    let p3 = p4 .before .before .before .before .before in
-    let p2 = p3 .before .before .before .before .before in
-    let p1 = p2 .before .before .before .before .before in
-    let f = p1 .before .before .before in
-    let k = f .before .before .before in
-    did-four (k .args .st) (f .four .result) (f .four .ensures) (k .args .text .now) (k .args .out .now) (k .pre .1 .0) (k .pre .1 .1)
-    (p1 .put .ensures) (p2 .put2 .ensures) (p3 .put3 .ensures) (p4 .put4 .ensures)
+    let p = c .before .before .before in
+    done (start p .args .st) (from p .four .result) (from p .four .ensures) (start p .args .text .now) (start p .args .out .now) (start p .pre .1 .0) (start p .pre .1 .1) (one p .put .ensures) (two p .put2 .ensures)
+    (three p .put3 .ensures) (p .put4 .ensures)
 
 pub four-spec : {M : Type 1} → statement M
 four-spec =

@@ -7,15 +7,5 @@ use borrow.Author.Needs.{needs}
 use Rattle.crypt_mugi.proofs.put_block.Statement.{statement}
 use Rattle.crypt_mugi.proofs.put_block.Tie as tie
 
-returns : tie.Need-returns
-returns c =
-    let a = c .before .before .args in
-    put-bytes (a .y) (a .out .now) (c .bytes .ensures) (omega arith)
-
 pub put-block-spec : {M : Type 1} → statement M
-put-block-spec =
-    tie.close (tie.spec (λ c κs. search needs) (search needs) (search needs)
-    (search needs) (λ c. simp length-set (omega arith)) (search needs) (λ c. simp length-set (omega arith))
-    (search needs) (λ c. simp length-set (omega arith)) (search needs) (λ c. simp length-set (omega arith))
-    (search needs) (λ c. simp length-set (omega arith)) (search needs) (λ c. simp length-set (omega arith))
-    (search needs) (λ c. simp length-set (omega arith)) (λ c. simp length-set) returns)
+put-block-spec = tie.close (tie.spec (λ c κs. search needs) (search needs) (search needs) (search needs) (λ c. simp length-set (omega arith)) (search needs) (λ c. simp length-set (omega arith)) (search needs) (λ c. simp length-set (omega arith)) (search needs) (λ c. simp length-set (omega arith)) (search needs) (λ c. simp length-set (omega arith)) (search needs) (λ c. simp length-set (omega arith)) (search needs) (λ c. simp length-set (omega arith)) (λ c. simp length-set) (λ c. let a = c .before .before .args in put-bytes (a .y) (a .out .now) (c .bytes .ensures) (omega arith)))

@@ -5,12 +5,5 @@ use borrow.Author.Needs.{needs}
 use Rattle.crypt_mugi.proofs.unit.Statement.{statement}
 use Rattle.crypt_mugi.proofs.unit.Tie as tie
 
-returns : tie.Need-returns
-returns c =
-    let p = c .before .before .before in
-    let o = p .before .before in
-    did-unit (o .before .before .before .pre .1 .0) (o .output .ensures) (p .put .ensures) (c .step .ensures)
-
 pub unit-spec : {M : Type 1} → statement M
-unit-spec =
-    tie.close (tie.spec (λ c κs. search needs) (λ c κs. search needs) (λ c κs. search needs) (search needs) returns)
+unit-spec = tie.close (tie.spec (λ c κs. search needs) (λ c κs. search needs) (λ c κs. search needs) (search needs) (λ c. let p = c .before .before .before in let o = p .before .before in did-unit (o .before .before .before .pre .1 .0) (o .output .ensures) (p .put .ensures) (c .step .ensures)))

@@ -3,7 +3,7 @@
 use mathlib.Core.Path.{refl}
 use native.Mathlib.Omega.{arith}
 use Rattle.keystream.proofs.Parts.{begun, crypted, tail-length}
-use Rattle.crypt_snow2.specs.Generator.{gen}
+use Rattle.snow2.specs.Generator.{gen}
 use borrow.Author.Needs.{needs}
 use Rattle.crypt_snow2.proofs.crypt.Statement.{statement}
 use Rattle.crypt_snow2.proofs.crypt.Tie as tie

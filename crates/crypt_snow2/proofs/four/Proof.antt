@@ -1,6 +1,9 @@
 -- `crypt_snow2::four` meets its contract: each unit goes on where the one before it ended.
 -- Assumes nothing.
-use Rattle.crypt_snow2.proofs.Units.{fourth, did-four, four-length}
+use mathlib.Core.Path.{refl}
+use native.Mathlib.Omega.{arith}
+use Rattle.keystream.proofs.Parts.{fourth, did-four, four-length}
+use Rattle.snow2.specs.Generator.{gen}
 use borrow.Author.Needs.{needs}
 use Rattle.crypt_snow2.proofs.four.Statement.{statement}
 use Rattle.crypt_snow2.proofs.four.Tie as tie
@@ -25,31 +28,34 @@ part-unit-start-6 c =
     let p = c .before .before .before .before .before .before .before .before in
     let k = p .before .before .before .before .before .before .before .before .before .pre in search needs
 
+-- ---- the units, one after the other
+
+abbrev two : tie.After-unit3 → tie.After-unit2
+two p = p .before .before .before .before .before
+
+abbrev one : tie.After-unit3 → tie.After-unit
+one p = two p .before .before .before .before .before
+
+abbrev start : tie.After-unit3 → tie.Start
+start p = one p .before .before .before .before
+
 unit-requires-4 : tie.Need-unit-requires-4
+unfolding gen
 unit-requires-4 c κs =
-    let p3 = c .before .before .before .before in
-    let p2 = p3 .before .before .before .before .before in
-    let p1 = p2 .before .before .before .before .before in
-    let k = p1 .before .before .before .before .pre in
-    (k .0, fourth (k .1 .0) (k .1 .1) (p1 .unit .ensures) (p2 .unit2 .ensures) (p3 .unit3 .ensures))
+    let p = c .before .before .before .before in
+    (start p .pre .0, fourth gen 4 (omega arith) refl (start p .pre .1 .0) (start p .pre .1 .1) (one p .unit .ensures) (two p .unit2 .ensures) (p .unit3 .ensures))
 
 same-length : tie.Need-same-length
+unfolding gen
 same-length c =
-    let p4 = c .before .before in
-    let p3 = p4 .before .before .before .before .before in
-    let p2 = p3 .before .before .before .before .before in
-    let p1 = p2 .before .before .before .before .before in
-    let h = p1 .before .before .before .before .pre .1 in
-    four-length (h .0) (h .1) (p1 .unit .ensures) (p2 .unit2 .ensures) (p3 .unit3 .ensures) (p4 .unit4 .ensures)
+    let p = c .before .before .before .before .before .before .before in
+    four-length gen 4 (omega arith) refl (start p .pre .1 .0) (start p .pre .1 .1) (one p .unit .ensures) (two p .unit2 .ensures) (p .unit3 .ensures) (c .before .before .unit4 .ensures)
 
 returns : tie.Need-returns
+unfolding gen
 returns c =
-    let p4 = c .before .before in
-    let p3 = p4 .before .before .before .before .before in
-    let p2 = p3 .before .before .before .before .before in
-    let p1 = p2 .before .before .before .before .before in
-    let h = p1 .before .before .before .before .pre .1 in
-    did-four (h .0) (h .1) (p1 .unit .ensures) (p2 .unit2 .ensures) (p3 .unit3 .ensures) (p4 .unit4 .ensures)
+    let p = c .before .before .before .before .before .before .before in
+    did-four gen 4 (omega arith) refl (start p .pre .1 .0) (start p .pre .1 .1) (one p .unit .ensures) (two p .unit2 .ensures) (p .unit3 .ensures) (c .before .before .unit4 .ensures)
 
 pub four-spec : {M : Type 1} → statement M
 four-spec =

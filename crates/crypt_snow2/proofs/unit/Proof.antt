@@ -7,7 +7,7 @@ use native.Mathlib.Omega.{arith}
 use Rattle.words.specs.Strings.{bytesOf}
 use Rattle.keystream.proofs.Parts.{did-end}
 use Rattle.snow2.specs.Cipher.{unit}
-use Rattle.crypt_snow2.specs.Generator.{gen}
+use Rattle.snow2.specs.Generator.{gen}
 use borrow.Author.Needs.{needs}
 use Rattle.crypt_snow2.proofs.unit.Statement.{statement}
 use Rattle.crypt_snow2.proofs.unit.Tie as tie

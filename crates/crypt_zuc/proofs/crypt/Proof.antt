@@ -3,7 +3,7 @@
 use mathlib.Core.Path.{refl}
 use native.Mathlib.Omega.{arith}
 use Rattle.keystream.proofs.Parts.{begun, crypted, tail-length}
-use Rattle.crypt_zuc.specs.Generator.{gen}
+use Rattle.zuc.specs.Generator.{gen}
 use borrow.Author.Needs.{needs}
 use Rattle.crypt_zuc.proofs.crypt.Statement.{statement}
 use Rattle.crypt_zuc.proofs.crypt.Tie as tie

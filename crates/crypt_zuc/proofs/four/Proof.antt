@@ -1,7 +1,7 @@
 -- `crypt_zuc::four` meets its contract: each unit goes on where the one before it ended.
 -- Assumes nothing.
 use native.Mathlib.Omega.{arith}
-use Rattle.crypt_zuc.proofs.Units.{three-length, did-four, four-length}
+use Rattle.crypt_zuc.proofs.Units.{room, done, done-length}
 use borrow.Author.Needs.{needs}
 use Rattle.crypt_zuc.proofs.four.Statement.{statement}
 use Rattle.crypt_zuc.proofs.four.Tie as tie
@@ -16,31 +16,26 @@ part-put-start-5 c =
     let p = c .before .before .before .before .before .before .before .before .before .before in
     let k = p .before .before .before .before .before .before .before .before .before .pre in search needs
 
+-- ---- the units, one after the other: each is put and followed by a step
+
+abbrev two : tie.After-step3 → tie.After-step2
+two p = p .before .before .before .before .before .before
+
+abbrev one : tie.After-step3 → tie.After-step
+one p = two p .before .before .before .before .before .before
+
+abbrev start : tie.After-step3 → tie.Start
+start p = one p .before .before .before .before .before .before .before
+
 sub-put-6 : tie.Need-sub-put-6
 sub-put-6 c =
-    let s3 = c .before in
-    let s2 = s3 .before .before .before .before .before .before in
-    let s1 = s2 .before .before .before .before .before .before in
-    let p1 = s1 .before .before .before in
-    let k = p1 .before .before .before .before in
-    let a = k .args in
-    let h = k .pre .1 in
-    let l = three-length (a .st) (a .text .now) (a .out .now) (h .0) (h .1) (p1 .put .ensures) (s1 .step .ensures)
-    (s2 .before .before .before .put2 .ensures) (s2 .step2 .ensures) (s3 .before .before .before .put3 .ensures) (s3 .step3 .ensures) in
-    omega (arith, l, h .1)
+    let p = c .before in
+    let l = room (start p .args .st) (start p .args .text .now) (start p .args .out .now) (start p .pre .1 .0) (start p .pre .1 .1) (one p .before .before .before .put .ensures) (one p .step .ensures)
+    (two p .before .before .before .put2 .ensures) (two p .step2 .ensures) (p .before .before .before .put3 .ensures) (p .step3 .ensures) in
+    omega (arith, l, start p .pre .1 .1)
 
 part-put-start-6 : tie.Need-part-put-start-6
-part-put-start-6 c =
-    let s3 = c .before in
-    let s2 = s3 .before .before .before .before .before .before in
-    let s1 = s2 .before .before .before .before .before .before in
-    let p1 = s1 .before .before .before in
-    let k = p1 .before .before .before .before in
-    let a = k .args in
-    let h = k .pre .1 in
-    let l = three-length (a .st) (a .text .now) (a .out .now) (h .0) (h .1) (p1 .put .ensures) (s1 .step .ensures)
-    (s2 .before .before .before .put2 .ensures) (s2 .step2 .ensures) (s3 .before .before .before .put3 .ensures) (s3 .step3 .ensures) in
-    omega (arith, l, h .1)
+part-put-start-6 c = sub-put-6 c
 
 put-requires-4 : tie.Need-put-requires-4
 put-requires-4 c κs =
@@ -55,28 +50,16 @@ step-requires-4 c κs =
 
 same-length : tie.Need-same-length
 same-length c =
-    let s3 = c .before .before .before .before .before .before in
-    let s2 = s3 .before .before .before .before .before .before in
-    let s1 = s2 .before .before .before .before .before .before in
-    let p1 = s1 .before .before .before in
-    let k = p1 .before .before .before .before in
-    let a = k .args in
-    let h = k .pre .1 in
-    four-length (a .st) (a .text .now) (a .out .now) (h .0) (h .1) (p1 .put .ensures) (s1 .step .ensures)
-    (s2 .before .before .before .put2 .ensures) (s2 .step2 .ensures) (s3 .before .before .before .put3 .ensures) (s3 .step3 .ensures)
+    let p = c .before .before .before .before .before .before in
+    done-length (start p .args .st) (start p .args .text .now) (start p .args .out .now) (start p .pre .1 .0) (start p .pre .1 .1) (one p .before .before .before .put .ensures) (one p .step .ensures)
+    (two p .before .before .before .put2 .ensures) (two p .step2 .ensures) (p .before .before .before .put3 .ensures) (p .step3 .ensures)
     (c .before .before .before .put4 .ensures) (c .step4 .ensures)
 
 returns : tie.Need-returns
 returns c =
-    let s3 = c .before .before .before .before .before .before in
-    let s2 = s3 .before .before .before .before .before .before in
-    let s1 = s2 .before .before .before .before .before .before in
-    let p1 = s1 .before .before .before in
-    let k = p1 .before .before .before .before in
-    let a = k .args in
-    let h = k .pre .1 in
-    did-four (a .st) (a .text .now) (a .out .now) (h .0) (h .1) (p1 .put .ensures) (s1 .step .ensures)
-    (s2 .before .before .before .put2 .ensures) (s2 .step2 .ensures) (s3 .before .before .before .put3 .ensures) (s3 .step3 .ensures)
+    let p = c .before .before .before .before .before .before in
+    done (start p .args .st) (start p .args .text .now) (start p .args .out .now) (start p .pre .1 .0) (start p .pre .1 .1) (one p .before .before .before .put .ensures) (one p .step .ensures)
+    (two p .before .before .before .put2 .ensures) (two p .step2 .ensures) (p .before .before .before .put3 .ensures) (p .step3 .ensures)
     (c .before .before .before .put4 .ensures) (c .step4 .ensures)
 
 pub four-spec : {M : Type 1} → statement M

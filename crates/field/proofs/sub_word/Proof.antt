@@ -6,13 +6,5 @@ use borrow.Author.Needs.{needs}
 use Rattle.field.proofs.sub_word.Statement.{statement}
 use Rattle.field.proofs.sub_word.Tie as tie
 
-returns : tie.Need-returns
-returns c =
-    let k = c .before .before .before .before .before .before .before in
-    rw (c .rotl24 .ensures, c .before .before .rotl16 .ensures, c .before .before .before .before .rotl8 .ensures, k .pre) (fnT-by (k .args .w))
-
 pub sub-word-spec : {M : Type 1} → statement M
-sub-word-spec =
-    tie.close (tie.spec (search needs) (search needs) (λ c. byte-of _) (search needs) (search needs) (λ c. byte-of _)
-    (search needs) (search needs) (search needs) (λ c. byte-of _) (search needs) (search needs) (search needs)
-    (λ c. byte-of _) (search needs) returns)
+sub-word-spec = tie.close (tie.spec (search needs) (search needs) (λ c. byte-of _) (search needs) (search needs) (λ c. byte-of _) (search needs) (search needs) (search needs) (λ c. byte-of _) (search needs) (search needs) (search needs) (λ c. byte-of _) (search needs) (λ c. let k = c .before .before .before .before .before .before .before in rw (c .rotl24 .ensures, c .before .before .rotl16 .ensures, c .before .before .before .before .rotl8 .ensures, k .pre) (fnT-by (k .args .w))))

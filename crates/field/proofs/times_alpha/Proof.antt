@@ -6,9 +6,5 @@ use borrow.Author.Needs.{needs}
 use Rattle.field.proofs.times_alpha.Statement.{statement}
 use Rattle.field.proofs.times_alpha.Tie as tie
 
-returns : tie.Need-returns
-returns c = λ f h. alpha-by f (now (c .before .args .t)) h (c .before .args .w) (c .before .fits .w .fits)
-
 pub times-alpha-spec : {M : Type 1} → statement M
-times-alpha-spec =
-    tie.close (tie.spec (search needs) (search needs) (search needs) returns)
+times-alpha-spec = tie.close (tie.spec (search needs) (search needs) (search needs) (λ c. λ f h. alpha-by f (now (c .before .args .t)) h (c .before .args .w) (c .before .fits .w .fits)))

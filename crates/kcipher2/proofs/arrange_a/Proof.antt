@@ -6,10 +6,6 @@ use borrow.Author.Needs.{needs}
 use Rattle.kcipher2.proofs.arrange_a.Statement.{statement}
 use Rattle.kcipher2.proofs.arrange_a.Tie as tie
 
-returns : tie.Need-returns
-unfolding cellsA
-returns c = refl
-
 pub arrange-a-spec : {M : Type 1} → statement M
-arrange-a-spec =
-    tie.close (tie.spec (search needs) (search needs) (search needs) (search needs) (search needs) returns)
+unfolding cellsA
+arrange-a-spec = tie.close (tie.spec (search needs) (search needs) (search needs) (search needs) (search needs) (λ c. refl))

@@ -6,11 +6,6 @@ use borrow.Author.Needs.{needs}
 use Rattle.kcipher2.proofs.arrange_b.Statement.{statement}
 use Rattle.kcipher2.proofs.arrange_b.Tie as tie
 
-returns : tie.Need-returns
-unfolding cellsB
-returns c = refl
-
 pub arrange-b-spec : {M : Type 1} → statement M
-arrange-b-spec =
-    tie.close (tie.spec (search needs) (search needs) (search needs) (search needs) (search needs) (search needs)
-    (search needs) (search needs) (search needs) (search needs) (search needs) returns)
+unfolding cellsB
+arrange-b-spec = tie.close (tie.spec (search needs) (search needs) (search needs) (search needs) (search needs) (search needs) (search needs) (search needs) (search needs) (search needs) (search needs) (λ c. refl))

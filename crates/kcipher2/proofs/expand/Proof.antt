@@ -5,11 +5,6 @@ use borrow.Author.Needs.{needs}
 use Rattle.kcipher2.proofs.expand.Statement.{statement}
 use Rattle.kcipher2.proofs.expand.Tie as tie
 
-returns : tie.Need-returns
-unfolding expanded
-returns c = rw (c .sub-word .ensures, c .before .rotl8 .ensures)
-
 pub expand-spec : {M : Type 1} → statement M
-expand-spec =
-    tie.close (tie.spec (search needs) (search needs) (λ c κs. search needs) (λ c κs. search needs) (search needs)
-    (search needs) (search needs) returns)
+unfolding expanded
+expand-spec = tie.close (tie.spec (search needs) (search needs) (λ c κs. search needs) (λ c κs. search needs) (search needs) (search needs) (search needs) (λ c. rw (c .sub-word .ensures, c .before .rotl8 .ensures)))

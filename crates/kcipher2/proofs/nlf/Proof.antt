@@ -4,9 +4,5 @@ use borrow.Author.Needs.{needs}
 use Rattle.kcipher2.proofs.nlf.Statement.{statement}
 use Rattle.kcipher2.proofs.nlf.Tie as tie
 
-returns : tie.Need-returns
-returns c = rw (c .wrapping-add-u32 .ensures)
-
 pub nlf-spec : {M : Type 1} → statement M
-nlf-spec =
-    tie.close (tie.spec (λ c κs. search needs) returns)
+nlf-spec = tie.close (tie.spec (λ c κs. search needs) (λ c. rw (c .wrapping-add-u32 .ensures)))

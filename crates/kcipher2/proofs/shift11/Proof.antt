@@ -6,10 +6,5 @@ use borrow.Author.Needs.{needs}
 use Rattle.kcipher2.proofs.shift11.Statement.{statement}
 use Rattle.kcipher2.proofs.shift11.Tie as tie
 
-returns : tie.Need-returns
-returns c = sym (shifted-cells 10 (c .args .t1) (c .args .x) (search needs))
-
 pub shift11-spec : {M : Type 1} → statement M
-shift11-spec =
-    tie.close (tie.spec (search needs) (search needs) (search needs) (search needs) (search needs) (search needs)
-    (search needs) (search needs) (search needs) (search needs) returns)
+shift11-spec = tie.close (tie.spec (search needs) (search needs) (search needs) (search needs) (search needs) (search needs) (search needs) (search needs) (search needs) (search needs) (λ c. sym (shifted-cells 10 (c .args .t1) (c .args .x) (search needs))))

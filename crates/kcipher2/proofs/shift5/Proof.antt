@@ -6,9 +6,5 @@ use borrow.Author.Needs.{needs}
 use Rattle.kcipher2.proofs.shift5.Statement.{statement}
 use Rattle.kcipher2.proofs.shift5.Tie as tie
 
-returns : tie.Need-returns
-returns c = sym (shifted-cells 4 (c .args .t1) (c .args .x) (search needs))
-
 pub shift5-spec : {M : Type 1} → statement M
-shift5-spec =
-    tie.close (tie.spec (search needs) (search needs) (search needs) (search needs) returns)
+shift5-spec = tie.close (tie.spec (search needs) (search needs) (search needs) (search needs) (λ c. sym (shifted-cells 4 (c .args .t1) (c .args .x) (search needs))))

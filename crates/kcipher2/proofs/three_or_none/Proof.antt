@@ -10,14 +10,6 @@ use borrow.Author.Needs.{needs}
 use Rattle.kcipher2.proofs.three_or_none.Statement.{statement}
 use Rattle.kcipher2.proofs.three_or_none.Tie as tie
 
-returns : tie.Need-returns
-unfolding threeOrNone
-returns c =
-    rw (
-      c .pick .ensures,
-      c .before .times-alpha .ensures field3 (subst (λ (t : List ℕ). Products field3 (field3 .y4) t) (sym (c .before .before .pre .1)) alpha3-rule),
-    )
-
 pub three-or-none-spec : {M : Type 1} → statement M
-three-or-none-spec =
-    tie.close (tie.spec (λ c κs. search needs) (λ c κs. search needs) returns)
+unfolding threeOrNone
+three-or-none-spec = tie.close (tie.spec (λ c κs. search needs) (λ c κs. search needs) (λ c. rw (c .pick .ensures, c .before .times-alpha .ensures field3 (subst (λ (t : List ℕ). Products field3 (field3 .y4) t) (sym (c .before .before .pre .1)) alpha3-rule))))

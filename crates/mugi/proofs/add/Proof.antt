@@ -6,11 +6,6 @@ use borrow.Author.Needs.{needs}
 use Rattle.mugi.proofs.add.Statement.{statement}
 use Rattle.mugi.proofs.add.Tie as tie
 
-returns : tie.Need-returns
-unfolding added
-returns c = refl
-
 pub add-spec : {M : Type 1} → statement M
-add-spec =
-    tie.close (tie.spec (search needs) (search needs) (search needs) (search needs) (search needs) (search needs)
-    returns)
+unfolding added
+add-spec = tie.close (tie.spec (search needs) (search needs) (search needs) (search needs) (search needs) (search needs) (λ c. refl))

@@ -5,10 +5,6 @@ use borrow.Author.Needs.{needs}
 use Rattle.mugi.proofs.block_at.Statement.{statement}
 use Rattle.mugi.proofs.block_at.Tie as tie
 
-returns : tie.Need-returns
-unfolding blockAt
-returns c = rw (c .join .ensures, c .before .word-at2 .ensures, c .before .before .word-at .ensures)
-
 pub block-at-spec : {M : Type 1} → statement M
-block-at-spec =
-    tie.close (tie.spec (λ c κs. search needs) (search needs) (λ c κs. search needs) (λ c κs. search needs) returns)
+unfolding blockAt
+block-at-spec = tie.close (tie.spec (λ c κs. search needs) (search needs) (λ c κs. search needs) (λ c κs. search needs) (λ c. rw (c .join .ensures, c .before .word-at2 .ensures, c .before .before .word-at .ensures)))

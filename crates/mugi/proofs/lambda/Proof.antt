@@ -5,12 +5,6 @@ use borrow.Author.Needs.{needs}
 use Rattle.mugi.proofs.lambda.Statement.{statement}
 use Rattle.mugi.proofs.lambda.Tie as tie
 
-returns : tie.Need-returns
-unfolding lambda1
-returns c = rw (c .rotl32 .ensures)
-
 pub lambda-spec : {M : Type 1} → statement M
-lambda-spec =
-    tie.close (tie.spec (search needs) (λ c κs. search needs) (search needs) (search needs) (search needs)
-    (search needs) (search needs) (search needs) (search needs) (search needs) (search needs) (search needs)
-    (search needs) (search needs) (search needs) (search needs) (search needs) (search needs) (search needs) returns)
+unfolding lambda1
+lambda-spec = tie.close (tie.spec (search needs) (λ c κs. search needs) (search needs) (search needs) (search needs) (search needs) (search needs) (search needs) (search needs) (search needs) (search needs) (search needs) (search needs) (search needs) (search needs) (search needs) (search needs) (search needs) (search needs) (λ c. rw (c .rotl32 .ensures)))

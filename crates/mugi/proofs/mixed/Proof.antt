@@ -6,13 +6,5 @@ use borrow.Author.Needs.{needs}
 use Rattle.mugi.proofs.mixed.Statement.{statement}
 use Rattle.mugi.proofs.mixed.Tie as tie
 
-returns : tie.Need-returns
-returns c =
-    let k = c .before .before .before .before .before .before .before in
-    rw (c .rotl24 .ensures, c .before .rotl8 .ensures, c .before .before .rotl16 .ensures, k .pre) (mixed-by (k .args .w))
-
 pub mixed-spec : {M : Type 1} → statement M
-mixed-spec =
-    tie.close (tie.spec (search needs) (search needs) (λ c. byte-of _) (search needs) (search needs) (λ c. byte-of _)
-    (search needs) (search needs) (λ c. byte-of _) (search needs) (search needs)
-    (λ c. byte-of _) (search needs) (search needs) (search needs) returns)
+mixed-spec = tie.close (tie.spec (search needs) (search needs) (λ c. byte-of _) (search needs) (search needs) (λ c. byte-of _) (search needs) (search needs) (λ c. byte-of _) (search needs) (search needs) (λ c. byte-of _) (search needs) (search needs) (search needs) (λ c. let k = c .before .before .before .before .before .before .before in rw (c .rotl24 .ensures, c .before .rotl8 .ensures, c .before .before .rotl16 .ensures, k .pre) (mixed-by (k .args .w))))

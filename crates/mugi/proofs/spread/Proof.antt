@@ -5,13 +5,6 @@ use borrow.Author.Needs.{needs}
 use Rattle.mugi.proofs.spread.Statement.{statement}
 use Rattle.mugi.proofs.spread.Tie as tie
 
-returns : tie.Need-returns
-unfolding spread
-returns c =
-    let p = c .before .before in
-    rw (c .rotr7 .ensures, c .before .rotl7 .ensures, p .block-at2 .ensures, p .before .block-at .ensures)
-
 pub spread-spec : {M : Type 1} → statement M
-spread-spec =
-    tie.close (tie.spec (λ c κs. search needs) (λ c κs. search needs) (λ c κs. search needs) (λ c κs. search needs)
-    returns)
+unfolding spread
+spread-spec = tie.close (tie.spec (λ c κs. search needs) (λ c κs. search needs) (λ c κs. search needs) (λ c κs. search needs) (λ c. let p = c .before .before in rw (c .rotr7 .ensures, c .before .rotl7 .ensures, p .block-at2 .ensures, p .before .block-at .ensures)))

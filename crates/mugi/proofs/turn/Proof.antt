@@ -5,9 +5,5 @@ use borrow.Author.Needs.{needs}
 use Rattle.mugi.proofs.turn.Statement.{statement}
 use Rattle.mugi.proofs.turn.Tie as tie
 
-returns : tie.Need-returns
-returns c = rw (c .stir .ensures, c .before .f .ensures) (turned-by _)
-
 pub turn-spec : {M : Type 1} → statement M
-turn-spec =
-    tie.close (tie.spec (search needs) (λ c κs. search needs) (λ c κs. search needs) returns)
+turn-spec = tie.close (tie.spec (search needs) (λ c κs. search needs) (λ c κs. search needs) (λ c. rw (c .stir .ensures, c .before .f .ensures) (turned-by _)))

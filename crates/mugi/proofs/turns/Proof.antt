@@ -16,19 +16,8 @@ Inv-loop t x₀ i₀ x i = (i ≤ 16) × (x ≡ iter i turned x₀)
 abbrev μ-loop : tie.MeasureT-loop
 μ-loop t x₀ i₀ x i = 16 - i
 
-loop-holds : tie.Need-loop-holds Inv-loop μ-loop
-unfolding iter
-loop-holds c = (search needs, refl)
-
-loop-again : tie.Need-loop-again Inv-loop μ-loop
-loop-again c = (omega arith, rw (c .turn .ensures, c .before .before .loop .inv .1, iter-more))
-
-returns : tie.Need-returns Inv-loop μ-loop
-returns c =
-    let p = c .before in
-    let e : p .loop .i ≡ 16 = omega arith in
-    rw (p .loop .inv .1, e)
-
 pub turns-spec : {M : Type 1} → statement M
+unfolding iter
 turns-spec =
-    tie.close (tie.spec Inv-loop μ-loop loop-holds (λ c κs. search needs) (search needs) (search needs) loop-again returns)
+    tie.close (tie.spec Inv-loop μ-loop (λ c. (search needs, refl)) (λ c κs. search needs) (search needs) (search needs)
+    (λ c. (omega arith, rw (c .turn .ensures, c .before .before .loop .inv .1, iter-more))) (λ c. let p = c .before in let e : p .loop .i ≡ 16 = omega arith in rw (p .loop .inv .1, e)))

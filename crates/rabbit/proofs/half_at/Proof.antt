@@ -5,11 +5,6 @@ use borrow.Author.Needs.{needs}
 use Rattle.rabbit.proofs.half_at.Statement.{statement}
 use Rattle.rabbit.proofs.half_at.Tie as tie
 
-returns : tie.Need-returns
-unfolding halfAt
-returns c = rw (c .wide2 .ensures .0, c .before .before .wide .ensures .0)
-
 pub half-at-spec : {M : Type 1} → statement M
-half-at-spec =
-    tie.close (tie.spec (search needs) (search needs) (λ c κs. search needs) (search needs) (λ c κs. search needs)
-    (search needs) (search needs) (search needs) returns)
+unfolding halfAt
+half-at-spec = tie.close (tie.spec (search needs) (search needs) (λ c κs. search needs) (search needs) (λ c κs. search needs) (search needs) (search needs) (search needs) (λ c. rw (c .wide2 .ensures .0, c .before .before .wide .ensures .0)))

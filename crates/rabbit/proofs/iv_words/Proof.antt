@@ -7,17 +7,6 @@ use borrow.Author.Needs.{needs}
 use Rattle.rabbit.proofs.iv_words.Statement.{statement}
 use Rattle.rabbit.proofs.iv_words.Tie as tie
 
-returns : tie.Need-returns
-unfolding ivWords
-returns c =
-    cons (c .before .before .before .join .ensures)
-    (cons (c .before .before .join2 .ensures)
-    (cons (c .before .join3 .ensures)
-    (cons (c .join4 .ensures)
-    refl)))
-
 pub iv-words-spec : {M : Type 1} → statement M
-iv-words-spec =
-    tie.close (tie.spec (search needs) (search needs) (λ c κs. search needs) (search needs) (search needs)
-    (λ c κs. search needs) (search needs) (search needs) (λ c κs. search needs) (search needs) (search needs)
-    (λ c κs. search needs) returns)
+unfolding ivWords
+iv-words-spec = tie.close (tie.spec (search needs) (search needs) (λ c κs. search needs) (search needs) (search needs) (λ c κs. search needs) (search needs) (search needs) (λ c κs. search needs) (search needs) (search needs) (λ c κs. search needs) (λ c. cons (c .before .before .before .join .ensures) (cons (c .before .before .join2 .ensures) (cons (c .before .join3 .ensures) (cons (c .join4 .ensures) refl)))))

@@ -6,13 +6,6 @@ use borrow.Author.Needs.{needs}
 use Rattle.rabbit.proofs.modify.Statement.{statement}
 use Rattle.rabbit.proofs.modify.Tie as tie
 
-returns : tie.Need-returns
-unfolding modified
-returns c = refl
-
 pub modify-spec : {M : Type 1} → statement M
-modify-spec =
-    tie.close (tie.spec (search needs) (search needs) (search needs) (search needs) (search needs) (search needs)
-    (search needs) (search needs) (search needs) (search needs) (search needs) (search needs) (search needs)
-    (search needs) (search needs) (search needs) (search needs) (search needs) (search needs) (search needs)
-    (search needs) (search needs) (search needs) (search needs) returns)
+unfolding modified
+modify-spec = tie.close (tie.spec (search needs) (search needs) (search needs) (search needs) (search needs) (search needs) (search needs) (search needs) (search needs) (search needs) (search needs) (search needs) (search needs) (search needs) (search needs) (search needs) (search needs) (search needs) (search needs) (search needs) (search needs) (search needs) (search needs) (search needs) (λ c. refl))

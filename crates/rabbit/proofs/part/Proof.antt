@@ -18,9 +18,5 @@ by-halves v w y h =
     ap (λ (n : ℕ). n ⊕ (low w ∥ high y)) (sym (div-add-mod' v (2 ^ 16)))
     ∙ xor-block 16 (high v) (low w) (low v) (high y) (mod-lt v (lit< tt)) (omega arith)
 
-returns : tie.Need-returns
-returns c = by-halves (c .args .v) (c .args .w) (c .args .y) (c .fits .y .fits)
-
 pub part-spec : {M : Type 1} → statement M
-part-spec =
-    tie.close (tie.spec (search needs) (search needs) returns)
+part-spec = tie.close (tie.spec (search needs) (search needs) (λ c. by-halves (c .args .v) (c .args .w) (c .args .y) (c .fits .y .fits)))

@@ -7,16 +7,6 @@ use borrow.Author.Needs.{needs}
 use Rattle.rabbit.proofs.parts4.Statement.{statement}
 use Rattle.rabbit.proofs.parts4.Tie as tie
 
-returns : tie.Need-returns
-unfolding parts4
-returns c =
-    cons (c .before .before .before .half-at .ensures)
-    (cons (c .before .before .half-at2 .ensures)
-    (cons (c .before .half-at3 .ensures)
-    (cons (c .half-at4 .ensures)
-    refl)))
-
 pub parts4-spec : {M : Type 1} → statement M
-parts4-spec =
-    tie.close (tie.spec (λ c κs. search needs) (λ c κs. search needs) (λ c κs. search needs) (λ c κs. search needs)
-    returns)
+unfolding parts4
+parts4-spec = tie.close (tie.spec (λ c κs. search needs) (λ c κs. search needs) (λ c κs. search needs) (λ c κs. search needs) (λ c. cons (c .before .before .before .half-at .ensures) (cons (c .before .before .half-at2 .ensures) (cons (c .before .half-at3 .ensures) (cons (c .half-at4 .ensures) refl)))))

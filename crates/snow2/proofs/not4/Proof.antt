@@ -5,11 +5,6 @@ use borrow.Author.Needs.{needs}
 use Rattle.snow2.proofs.not4.Statement.{statement}
 use Rattle.snow2.proofs.not4.Tie as tie
 
-returns : tie.Need-returns
-unfolding nots
-returns c = rw (c .not4 .ensures, c .before .not3 .ensures, c .before .before .not2 .ensures, c .before .before .before .not .ensures)
-
 pub not4-spec : {M : Type 1} → statement M
-not4-spec =
-    tie.close (tie.spec (search needs) (λ c κs. search needs) (search needs) (λ c κs. search needs) (search needs)
-    (λ c κs. search needs) (search needs) (λ c κs. search needs) returns)
+unfolding nots
+not4-spec = tie.close (tie.spec (search needs) (λ c κs. search needs) (search needs) (λ c κs. search needs) (search needs) (λ c κs. search needs) (search needs) (λ c κs. search needs) (λ c. rw (c .not4 .ensures, c .before .not3 .ensures, c .before .before .not2 .ensures, c .before .before .before .not .ensures)))

@@ -5,9 +5,5 @@ use borrow.Author.Needs.{needs}
 use Rattle.snow2.proofs.times_inverse.Statement.{statement}
 use Rattle.snow2.proofs.times_inverse.Tie as tie
 
-returns : tie.Need-returns
-returns c = rw (c .before .pre) (inverse-times (c .before .args .w) (c .before .fits .w .fits))
-
 pub times-inverse-spec : {M : Type 1} → statement M
-times-inverse-spec =
-    tie.close (tie.spec (search needs) (search needs) (search needs) returns)
+times-inverse-spec = tie.close (tie.spec (search needs) (search needs) (search needs) (λ c. rw (c .before .pre) (inverse-times (c .before .args .w) (c .before .fits .w .fits))))

@@ -6,10 +6,6 @@ use borrow.Author.Needs.{needs}
 use Rattle.words.proofs.bytes.Statement.{statement}
 use Rattle.words.proofs.bytes.Tie as tie
 
-returns : tie.Need-returns
-unfolding bytesOf
-returns c = refl
-
 pub bytes-spec : {M : Type 1} → statement M
-bytes-spec =
-    tie.close (tie.spec (search needs) (search needs) (search needs) (search needs) returns)
+unfolding bytesOf
+bytes-spec = tie.close (tie.spec (search needs) (search needs) (search needs) (search needs) (λ c. refl))

@@ -5,11 +5,6 @@ use borrow.Author.Needs.{needs}
 use Rattle.words.proofs.four_at.Statement.{statement}
 use Rattle.words.proofs.four_at.Tie as tie
 
-returns : tie.Need-returns
-unfolding fourAt
-returns c = cc
-
 pub four-at-spec : {M : Type 1} → statement M
-four-at-spec =
-    tie.close (tie.spec (λ c κs. search needs) (search needs) (λ c κs. search needs) (search needs)
-    (λ c κs. search needs) (search needs) (λ c κs. search needs) returns)
+unfolding fourAt
+four-at-spec = tie.close (tie.spec (λ c κs. search needs) (search needs) (λ c κs. search needs) (search needs) (λ c κs. search needs) (search needs) (λ c κs. search needs) (λ c. cc))

@@ -6,11 +6,5 @@ use borrow.Author.Needs.{needs}
 use Rattle.words.proofs.shift16.Statement.{statement}
 use Rattle.words.proofs.shift16.Tie as tie
 
-returns : tie.Need-returns
-returns c = sym (shifted-cells 15 (c .args .t1) (c .args .x) (search needs))
-
 pub shift16-spec : {M : Type 1} → statement M
-shift16-spec =
-    tie.close (tie.spec (search needs) (search needs) (search needs) (search needs) (search needs) (search needs)
-    (search needs) (search needs) (search needs) (search needs) (search needs) (search needs) (search needs)
-    (search needs) (search needs) returns)
+shift16-spec = tie.close (tie.spec (search needs) (search needs) (search needs) (search needs) (search needs) (search needs) (search needs) (search needs) (search needs) (search needs) (search needs) (search needs) (search needs) (search needs) (search needs) (λ c. sym (shifted-cells 15 (c .args .t1) (c .args .x) (search needs))))

@@ -7,9 +7,5 @@ use borrow.Author.Needs.{needs}
 use Rattle.zuc.proofs.feedback_init.Statement.{statement}
 use Rattle.zuc.proofs.feedback_init.Tie as tie
 
-returns : tie.Need-returns
-returns c = rw (c .feedback .ensures) (ap mended (omega arith))
-
 pub feedback-init-spec : {M : Type 1} → statement M
-feedback-init-spec =
-    tie.close (tie.spec (search needs) (search needs) (λ c κs. search needs) returns)
+feedback-init-spec = tie.close (tie.spec (search needs) (search needs) (λ c κs. search needs) (λ c. rw (c .feedback .ensures) (ap mended (omega arith))))

@@ -5,9 +5,5 @@ use borrow.Author.Needs.{needs}
 use Rattle.zuc.proofs.fold.Statement.{statement}
 use Rattle.zuc.proofs.fold.Tie as tie
 
-returns : tie.Need-returns
-returns c = omega arith
-
 pub fold-spec : {M : Type 1} → statement M
-fold-spec =
-    tie.close (tie.spec (search needs) returns)
+fold-spec = tie.close (tie.spec (search needs) (λ c. omega arith))

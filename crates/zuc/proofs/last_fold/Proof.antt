@@ -6,9 +6,5 @@ use borrow.Author.Needs.{needs}
 use Rattle.zuc.proofs.last_fold.Statement.{statement}
 use Rattle.zuc.proofs.last_fold.Tie as tie
 
-returns : tie.Need-returns
-returns c = let k = c .before in rw (← last-fold (k .args .x) (k .pre .0) (k .pre .1)) (omega arith)
-
 pub last-fold-spec : {M : Type 1} → statement M
-last-fold-spec =
-    tie.close (tie.spec (λ c κs. search needs) (search needs) returns)
+last-fold-spec = tie.close (tie.spec (λ c κs. search needs) (search needs) (λ c. let k = c .before in rw (← last-fold (k .args .x) (k .pre .0) (k .pre .1)) (omega arith)))

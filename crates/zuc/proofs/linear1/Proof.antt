@@ -5,10 +5,6 @@ use borrow.Author.Needs.{needs}
 use Rattle.zuc.proofs.linear1.Statement.{statement}
 use Rattle.zuc.proofs.linear1.Tie as tie
 
-returns : tie.Need-returns
-unfolding l1
-returns c = search needs
-
 pub linear1-spec : {M : Type 1} → statement M
-linear1-spec =
-    tie.close (tie.spec (search needs) (search needs) (search needs) (search needs) returns)
+unfolding l1
+linear1-spec = tie.close (tie.spec (search needs) (search needs) (search needs) (search needs) (λ c. search needs))

@@ -5,10 +5,6 @@ use borrow.Author.Needs.{needs}
 use Rattle.zuc.proofs.linear2.Statement.{statement}
 use Rattle.zuc.proofs.linear2.Tie as tie
 
-returns : tie.Need-returns
-unfolding l2
-returns c = search needs
-
 pub linear2-spec : {M : Type 1} → statement M
-linear2-spec =
-    tie.close (tie.spec (search needs) (search needs) (search needs) (search needs) returns)
+unfolding l2
+linear2-spec = tie.close (tie.spec (search needs) (search needs) (search needs) (search needs) (λ c. search needs))

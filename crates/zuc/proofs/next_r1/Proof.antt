@@ -5,10 +5,6 @@ use borrow.Author.Needs.{needs}
 use Rattle.zuc.proofs.next_r1.Statement.{statement}
 use Rattle.zuc.proofs.next_r1.Tie as tie
 
-returns : tie.Need-returns
-unfolding nextR1
-returns c = rw (c .substitute .ensures, c .before .linear1 .ensures, c .before .before .cross .ensures)
-
 pub next-r1-spec : {M : Type 1} → statement M
-next-r1-spec =
-    tie.close (tie.spec (λ c κs. search needs) (λ c κs. search needs) (λ c κs. search needs) returns)
+unfolding nextR1
+next-r1-spec = tie.close (tie.spec (λ c κs. search needs) (λ c κs. search needs) (λ c κs. search needs) (λ c. rw (c .substitute .ensures, c .before .linear1 .ensures, c .before .before .cross .ensures)))

@@ -5,10 +5,6 @@ use borrow.Author.Needs.{needs}
 use Rattle.zuc.proofs.next_r2.Statement.{statement}
 use Rattle.zuc.proofs.next_r2.Tie as tie
 
-returns : tie.Need-returns
-unfolding nextR2
-returns c = rw (c .substitute .ensures, c .before .linear2 .ensures, c .before .before .cross .ensures)
-
 pub next-r2-spec : {M : Type 1} → statement M
-next-r2-spec =
-    tie.close (tie.spec (λ c κs. search needs) (λ c κs. search needs) (λ c κs. search needs) returns)
+unfolding nextR2
+next-r2-spec = tie.close (tie.spec (λ c κs. search needs) (λ c κs. search needs) (λ c κs. search needs) (λ c. rw (c .substitute .ensures, c .before .linear2 .ensures, c .before .before .cross .ensures)))

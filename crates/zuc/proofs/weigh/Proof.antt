@@ -5,11 +5,6 @@ use borrow.Author.Needs.{needs}
 use Rattle.zuc.proofs.weigh.Statement.{statement}
 use Rattle.zuc.proofs.weigh.Tie as tie
 
-returns : tie.Need-returns
-unfolding weighed
-returns c = search needs
-
 pub weigh-spec : {M : Type 1} → statement M
-weigh-spec =
-    tie.close (tie.spec (search needs) (search needs) (search needs) (search needs) (search needs) (search needs)
-    (search needs) (search needs) (search needs) (search needs) returns)
+unfolding weighed
+weigh-spec = tie.close (tie.spec (search needs) (search needs) (search needs) (search needs) (search needs) (search needs) (search needs) (search needs) (search needs) (search needs) (λ c. search needs))

@@ -5,10 +5,6 @@ use Rattle.field.specs.Tables.{columnList}
 use Rattle.field.proofs.tables.column.Statement.{statement}
 use Rattle.field.proofs.tables.column.Tie as tie
 
-returns : tie.Need-returns
-unfolding columnList
-returns c = refl
-
 pub column-spec : {M : Type 1} → statement M
-column-spec =
-    tie.close (tie.spec returns)
+unfolding columnList
+column-spec = tie.close (tie.spec (λ c. refl))

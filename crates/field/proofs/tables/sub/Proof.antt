@@ -5,10 +5,6 @@ use Rattle.field.specs.Tables.{subList}
 use Rattle.field.proofs.tables.sub.Statement.{statement}
 use Rattle.field.proofs.tables.sub.Tie as tie
 
-returns : tie.Need-returns
-unfolding subList
-returns c = refl
-
 pub sub-spec : {M : Type 1} → statement M
-sub-spec =
-    tie.close (tie.spec returns)
+unfolding subList
+sub-spec = tie.close (tie.spec (λ c. refl))

@@ -10,10 +10,6 @@ use borrow.Author.Needs.{needs}
 use Rattle.kcipher2.proofs.Kcipher2.feed_a.Statement.{statement}
 use Rattle.kcipher2.proofs.Kcipher2.feed_a.Tie as tie
 
-returns : tie.Need-returns
-unfolding fedA
-returns c = rw (c .times-alpha .ensures field0 (subst (λ (t : List ℕ). Products field0 (field0 .y4) t) (sym (c .before .before .pre)) alpha0-rule))
-
 pub feed-a-spec : {M : Type 1} → statement M
-feed-a-spec =
-    tie.close (tie.spec (search needs) (λ c κs. search needs) (search needs) returns)
+unfolding fedA
+feed-a-spec = tie.close (tie.spec (search needs) (λ c κs. search needs) (search needs) (λ c. rw (c .times-alpha .ensures field0 (subst (λ (t : List ℕ). Products field0 (field0 .y4) t) (sym (c .before .before .pre)) alpha0-rule))))

@@ -5,11 +5,6 @@ use borrow.Author.Needs.{needs}
 use Rattle.kcipher2.proofs.Kcipher2.feed_b.Statement.{statement}
 use Rattle.kcipher2.proofs.Kcipher2.feed_b.Tie as tie
 
-returns : tie.Need-returns
-unfolding fedB
-returns c = rw (c .three-or-none .ensures, c .before .one-or-two .ensures)
-
 pub feed-b-spec : {M : Type 1} → statement M
-feed-b-spec =
-    tie.close (tie.spec (search needs) (search needs) (λ c κs. search needs) (search needs) (search needs)
-    (λ c κs. search needs) (search needs) (search needs) returns)
+unfolding fedB
+feed-b-spec = tie.close (tie.spec (search needs) (search needs) (λ c κs. search needs) (search needs) (search needs) (λ c κs. search needs) (search needs) (search needs) (λ c. rw (c .three-or-none .ensures, c .before .one-or-two .ensures)))

@@ -17,10 +17,6 @@ Inv-loop m0 m1 m2 m3 t ks₀ s₀ at₀ ks s at = (at % 32 ≡ 0) × Filling gen
 abbrev μ-loop : tie.MeasureT-loop
 μ-loop m0 m1 m2 m3 t ks₀ s₀ at₀ ks s at = length ks₀ - at
 
-loop-holds : tie.Need-loop-holds Inv-loop μ-loop
-unfolding gen
-loop-holds c = (refl, filling-start gen 8 (omega arith) refl)
-
 four-requires : tie.Need-four-requires Inv-loop μ-loop
 four-requires c κs =
     let l = c .before .before in
@@ -38,12 +34,6 @@ add-at c =
     let m = l .loop .inv .1 .same-length in
     let short : length (l .before .before .args .ks .now) < 2 ^ 64 = l .before .before .good .1 .1 .1 .1 .1 .1 .0 .0 in
     record { fits = omega (arith, short) }
-
-loop-less : tie.Need-loop-less Inv-loop μ-loop
-loop-less c =
-    let l = c .before .before .before .before .before in
-    let m = l .loop .inv .1 .same-length in
-    omega arith
 
 loop-again : tie.Need-loop-again Inv-loop μ-loop
 unfolding gen
@@ -70,6 +60,7 @@ returns c =
     filling-end gen 8 (omega arith) refl i e
 
 pub fours-spec : {M : Type 1} → statement M
+unfolding gen
 fours-spec =
-    tie.close (tie.spec Inv-loop μ-loop loop-holds (λ c. search needs) (λ c. search needs) (λ c. search needs)
-    four-requires add-at loop-less loop-again same-length returns)
+    tie.close (tie.spec Inv-loop μ-loop (λ c. (refl, filling-start gen 8 (omega arith) refl)) (λ c. search needs) (λ c. search needs) (λ c. search needs) four-requires add-at
+    (λ c. let l = c .before .before .before .before .before in let m = l .loop .inv .1 .same-length in omega arith) loop-again same-length returns)

@@ -5,10 +5,6 @@ use borrow.Author.Needs.{needs}
 use Rattle.kcipher2.proofs.Kcipher2.high.Statement.{statement}
 use Rattle.kcipher2.proofs.Kcipher2.high.Tie as tie
 
-returns : tie.Need-returns
-unfolding strmHigh
-returns c = c .nlf .ensures
-
 pub high-spec : {M : Type 1} → statement M
-high-spec =
-    tie.close (tie.spec (search needs) (search needs) (λ c κs. search needs) returns)
+unfolding strmHigh
+high-spec = tie.close (tie.spec (search needs) (search needs) (λ c κs. search needs) (λ c. c .nlf .ensures))

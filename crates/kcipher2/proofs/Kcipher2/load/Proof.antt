@@ -5,16 +5,6 @@ use borrow.Author.Needs.{needs}
 use Rattle.kcipher2.proofs.Kcipher2.load.Statement.{statement}
 use Rattle.kcipher2.proofs.Kcipher2.load.Tie as tie
 
-returns : tie.Need-returns
-unfolding loaded arranged
-returns c =
-    let v = c .before in
-    let a = v .before in
-    let g = a .before in
-    let e = g .before in
-    rw (c .arrange-b .ensures, v .four-at2 .ensures, a .arrange-a .ensures, g .expand2 .ensures, e .expand .ensures, e .before .four-at .ensures)
-
 pub load-spec : {M : Type 1} → statement M
-load-spec =
-    tie.close (tie.spec (λ c κs. search needs) (λ c κs. search needs) (λ c κs. search needs) (λ c κs. search needs)
-    (λ c κs. search needs) (λ c κs. search needs) returns)
+unfolding loaded arranged
+load-spec = tie.close (tie.spec (λ c κs. search needs) (λ c κs. search needs) (λ c κs. search needs) (λ c κs. search needs) (λ c κs. search needs) (λ c κs. search needs) (λ c. let v = c .before in let a = v .before in let g = a .before in let e = g .before in rw (c .arrange-b .ensures, v .four-at2 .ensures, a .arrange-a .ensures, g .expand2 .ensures, e .expand .ensures, e .before .four-at .ensures)))

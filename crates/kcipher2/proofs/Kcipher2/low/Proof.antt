@@ -5,10 +5,6 @@ use borrow.Author.Needs.{needs}
 use Rattle.kcipher2.proofs.Kcipher2.low.Statement.{statement}
 use Rattle.kcipher2.proofs.Kcipher2.low.Tie as tie
 
-returns : tie.Need-returns
-unfolding strmLow
-returns c = c .nlf .ensures
-
 pub low-spec : {M : Type 1} → statement M
-low-spec =
-    tie.close (tie.spec (search needs) (search needs) (λ c κs. search needs) returns)
+unfolding strmLow
+low-spec = tie.close (tie.spec (search needs) (search needs) (λ c κs. search needs) (λ c. c .nlf .ensures))

@@ -5,10 +5,6 @@ use borrow.Author.Needs.{needs}
 use Rattle.kcipher2.proofs.Kcipher2.output.Statement.{statement}
 use Rattle.kcipher2.proofs.Kcipher2.output.Tie as tie
 
-returns : tie.Need-returns
-unfolding strm
-returns c = rw (c .low .ensures, c .before .high .ensures)
-
 pub output-spec : {M : Type 1} → statement M
-output-spec =
-    tie.close (tie.spec (λ c κs. search needs) (λ c κs. search needs) returns)
+unfolding strm
+output-spec = tie.close (tie.spec (λ c κs. search needs) (λ c κs. search needs) (λ c. rw (c .low .ensures, c .before .high .ensures)))

@@ -18,10 +18,6 @@ Inv-loop m0 m1 m2 m3 t ks₀ s₀ at₀ ks s at = Filling gen 8 s₀ ks₀ ks s 
 abbrev μ-loop : tie.MeasureT-loop
 μ-loop m0 m1 m2 m3 t ks₀ s₀ at₀ ks s at = length ks₀ - at
 
-loop-holds : tie.Need-loop-holds Inv-loop μ-loop
-unfolding gen
-loop-holds c = filling-start gen 8 (omega arith) refl
-
 unit-requires : tie.Need-unit-requires Inv-loop μ-loop
 unit-requires c κs =
     let l = c .before .before in
@@ -40,12 +36,6 @@ add-at c =
     let m = i .same-length in
     let short : length (l .before .before .args .ks .now) < 2 ^ 64 = l .before .before .good .1 .1 .1 .1 .1 .1 .0 .0 in
     record { fits = omega (arith, short) }
-
-loop-less : tie.Need-loop-less Inv-loop μ-loop
-loop-less c =
-    let l = c .before .before .before .before .before .before in
-    let m = l .loop .inv .same-length in
-    omega arith
 
 loop-again : tie.Need-loop-again Inv-loop μ-loop
 unfolding gen
@@ -72,6 +62,7 @@ returns c =
     filling-end gen 8 (omega arith) refl i e
 
 pub rest-spec : {M : Type 1} → statement M
+unfolding gen
 rest-spec =
-    tie.close (tie.spec Inv-loop μ-loop loop-holds (λ c. search needs) (λ c. search needs) (λ c. search needs)
-    unit-requires (λ c κs. search needs) add-at loop-less loop-again same-length returns)
+    tie.close (tie.spec Inv-loop μ-loop (λ c. filling-start gen 8 (omega arith) refl) (λ c. search needs) (λ c. search needs) (λ c. search needs) unit-requires (λ c κs. search needs) add-at
+    (λ c. let l = c .before .before .before .before .before .before in let m = l .loop .inv .same-length in omega arith) loop-again same-length returns)

@@ -5,18 +5,6 @@ use borrow.Author.Needs.{needs}
 use Rattle.kcipher2.proofs.Kcipher2.step_init.Statement.{statement}
 use Rattle.kcipher2.proofs.Kcipher2.step_init.Tie as tie
 
-returns : tie.Need-returns
-unfolding nextInit
-returns c =
-    rw (
-      c .clock .ensures,
-      c .before .high .ensures,
-      c .before .before .feed-b .ensures,
-      c .before .before .before .low .ensures,
-      c .before .before .before .before .feed-a .ensures,
-    )
-
 pub step-init-spec : {M : Type 1} → statement M
-step-init-spec =
-    tie.close (tie.spec (λ c κs. search needs) (λ c κs. search needs) (λ c κs. search needs) (λ c κs. search needs)
-    (λ c κs. search needs) returns)
+unfolding nextInit
+step-init-spec = tie.close (tie.spec (λ c κs. search needs) (λ c κs. search needs) (λ c κs. search needs) (λ c κs. search needs) (λ c κs. search needs) (λ c. rw (c .clock .ensures, c .before .high .ensures, c .before .before .feed-b .ensures, c .before .before .before .low .ensures, c .before .before .before .before .feed-a .ensures)))

@@ -5,10 +5,6 @@ use Rattle.kcipher2.specs.Tables.{alpha1List}
 use Rattle.kcipher2.proofs.tables.alpha1.Statement.{statement}
 use Rattle.kcipher2.proofs.tables.alpha1.Tie as tie
 
-returns : tie.Need-returns
-unfolding alpha1List
-returns c = refl
-
 pub alpha1-spec : {M : Type 1} → statement M
-alpha1-spec =
-    tie.close (tie.spec returns)
+unfolding alpha1List
+alpha1-spec = tie.close (tie.spec (λ c. refl))

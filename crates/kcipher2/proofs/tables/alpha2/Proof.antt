@@ -5,10 +5,6 @@ use Rattle.kcipher2.specs.Tables.{alpha2List}
 use Rattle.kcipher2.proofs.tables.alpha2.Statement.{statement}
 use Rattle.kcipher2.proofs.tables.alpha2.Tie as tie
 
-returns : tie.Need-returns
-unfolding alpha2List
-returns c = refl
-
 pub alpha2-spec : {M : Type 1} → statement M
-alpha2-spec =
-    tie.close (tie.spec returns)
+unfolding alpha2List
+alpha2-spec = tie.close (tie.spec (λ c. refl))

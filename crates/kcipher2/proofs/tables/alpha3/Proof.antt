@@ -5,10 +5,6 @@ use Rattle.kcipher2.specs.Tables.{alpha3List}
 use Rattle.kcipher2.proofs.tables.alpha3.Statement.{statement}
 use Rattle.kcipher2.proofs.tables.alpha3.Tie as tie
 
-returns : tie.Need-returns
-unfolding alpha3List
-returns c = refl
-
 pub alpha3-spec : {M : Type 1} → statement M
-alpha3-spec =
-    tie.close (tie.spec returns)
+unfolding alpha3List
+alpha3-spec = tie.close (tie.spec (λ c. refl))

@@ -5,10 +5,6 @@ use borrow.Author.Needs.{needs}
 use Rattle.mugi.proofs.Mugi.first.Statement.{statement}
 use Rattle.mugi.proofs.Mugi.first.Tie as tie
 
-returns : tie.Need-returns
-unfolding first
-returns c = c .f .ensures
-
 pub first-spec : {M : Type 1} → statement M
-first-spec =
-    tie.close (tie.spec (search needs) (search needs) (λ c κs. search needs) returns)
+unfolding first
+first-spec = tie.close (tie.spec (search needs) (search needs) (λ c κs. search needs) (λ c. c .f .ensures))

@@ -16,21 +16,9 @@ Inv-loop key iv t s₀ i₀ s i = (i ≤ 16) × (s ≡ iter i next s₀)
 abbrev μ-loop : tie.MeasureT-loop
 μ-loop key iv t s₀ i₀ s i = 16 - i
 
-loop-holds : tie.Need-loop-holds Inv-loop μ-loop
-unfolding iter
-loop-holds c = (search needs, refl)
-
-loop-again : tie.Need-loop-again Inv-loop μ-loop
-loop-again c = (omega arith, rw (c .step .ensures, c .before .before .loop .inv .1, iter-more))
-
-returns : tie.Need-returns Inv-loop μ-loop
-unfolding init
-returns c =
-    let p = c .before in
-    let e : p .loop .i ≡ 16 = omega arith in
-    rw (p .loop .inv .1, e, p .before .with-iv .ensures, p .before .before .keyed .ensures)
-
 pub init-spec : {M : Type 1} → statement M
+unfolding init iter
 init-spec =
-    tie.close (tie.spec Inv-loop μ-loop (λ c κs. search needs) (λ c κs. search needs) loop-holds
-    (λ c κs. search needs) (search needs) (search needs) loop-again returns)
+    tie.close (tie.spec Inv-loop μ-loop (λ c κs. search needs) (λ c κs. search needs) (λ c. (search needs, refl)) (λ c κs. search needs) (search needs) (search needs)
+    (λ c. (omega arith, rw (c .step .ensures, c .before .before .loop .inv .1, iter-more)))
+    (λ c. let p = c .before in let e : p .loop .i ≡ 16 = omega arith in rw (p .loop .inv .1, e, p .before .with-iv .ensures, p .before .before .keyed .ensures)))

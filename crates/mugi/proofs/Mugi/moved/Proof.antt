@@ -4,9 +4,5 @@ use borrow.Author.Needs.{needs}
 use Rattle.mugi.proofs.Mugi.moved.Statement.{statement}
 use Rattle.mugi.proofs.Mugi.moved.Tie as tie
 
-returns : tie.Need-returns
-returns c = rw (c .lambda .ensures, c .before .stir .ensures)
-
 pub moved-spec : {M : Type 1} → statement M
-moved-spec =
-    tie.close (tie.spec (λ c κs. search needs) (search needs) (λ c κs. search needs) returns)
+moved-spec = tie.close (tie.spec (λ c κs. search needs) (search needs) (λ c κs. search needs) (λ c. rw (c .lambda .ensures, c .before .stir .ensures)))

@@ -6,10 +6,6 @@ use borrow.Author.Needs.{needs}
 use Rattle.mugi.proofs.Mugi.output.Statement.{statement}
 use Rattle.mugi.proofs.Mugi.output.Tie as tie
 
-returns : tie.Need-returns
-unfolding strm
-returns c = refl
-
 pub output-spec : {M : Type 1} → statement M
-output-spec =
-    tie.close (tie.spec (search needs) returns)
+unfolding strm
+output-spec = tie.close (tie.spec (search needs) (λ c. refl))

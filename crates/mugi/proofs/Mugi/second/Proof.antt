@@ -5,10 +5,6 @@ use borrow.Author.Needs.{needs}
 use Rattle.mugi.proofs.Mugi.second.Statement.{statement}
 use Rattle.mugi.proofs.Mugi.second.Tie as tie
 
-returns : tie.Need-returns
-unfolding second
-returns c = rw (c .f .ensures, c .before .rotl17 .ensures)
-
 pub second-spec : {M : Type 1} → statement M
-second-spec =
-    tie.close (tie.spec (search needs) (search needs) (λ c κs. search needs) (λ c κs. search needs) returns)
+unfolding second
+second-spec = tie.close (tie.spec (search needs) (search needs) (λ c κs. search needs) (λ c κs. search needs) (λ c. rw (c .f .ensures, c .before .rotl17 .ensures)))

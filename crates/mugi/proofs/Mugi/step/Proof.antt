@@ -5,11 +5,5 @@ use borrow.Author.Needs.{needs}
 use Rattle.mugi.proofs.Mugi.step.Statement.{statement}
 use Rattle.mugi.proofs.Mugi.step.Tie as tie
 
-returns : tie.Need-returns
-returns c =
-    let p = c .before .before in
-    stepped (p .before .args .self) (c .moved .result) (p .first .result) (c .before .second .result) (p .first .ensures) (c .before .second .ensures) (c .moved .ensures)
-
 pub step-spec : {M : Type 1} → statement M
-step-spec =
-    tie.close (tie.spec (λ c κs. search needs) (λ c κs. search needs) (λ c κs. search needs) returns)
+step-spec = tie.close (tie.spec (λ c κs. search needs) (λ c κs. search needs) (λ c κs. search needs) (λ c. let p = c .before .before in stepped (p .before .args .self) (c .moved .result) (p .first .result) (c .before .second .result) (p .first .ensures) (c .before .second .ensures) (c .moved .ensures)))

@@ -5,10 +5,6 @@ use borrow.Author.Needs.{needs}
 use Rattle.mugi.proofs.Mugi.with_iv.Statement.{statement}
 use Rattle.mugi.proofs.Mugi.with_iv.Tie as tie
 
-returns : tie.Need-returns
-unfolding withIv
-returns c = rw (c .turns .ensures, c .before .add .ensures, c .before .before .spread .ensures)
-
 pub with-iv-spec : {M : Type 1} → statement M
-with-iv-spec =
-    tie.close (tie.spec (λ c κs. search needs) (λ c κs. search needs) (λ c κs. search needs) returns)
+unfolding withIv
+with-iv-spec = tie.close (tie.spec (λ c κs. search needs) (λ c κs. search needs) (λ c κs. search needs) (λ c. rw (c .turns .ensures, c .before .add .ensures, c .before .before .spread .ensures)))

@@ -5,10 +5,6 @@ use Rattle.mugi.specs.Tables.{mixingList}
 use Rattle.mugi.proofs.tables.mixing.Statement.{statement}
 use Rattle.mugi.proofs.tables.mixing.Tie as tie
 
-returns : tie.Need-returns
-unfolding mixingList
-returns c = refl
-
 pub mixing-spec : {M : Type 1} → statement M
-mixing-spec =
-    tie.close (tie.spec returns)
+unfolding mixingList
+mixing-spec = tie.close (tie.spec (λ c. refl))

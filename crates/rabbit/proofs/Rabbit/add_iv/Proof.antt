@@ -5,12 +5,6 @@ use borrow.Author.Needs.{needs}
 use Rattle.rabbit.proofs.Rabbit.add_iv.Statement.{statement}
 use Rattle.rabbit.proofs.Rabbit.add_iv.Tie as tie
 
-returns : tie.Need-returns
-unfolding withIv
-returns c =
-    let w = c .before in
-    rw (c .modify .ensures, w .iv-words .ensures, w .before .parts4 .ensures)
-
 pub add-iv-spec : {M : Type 1} → statement M
-add-iv-spec =
-    tie.close (tie.spec (λ c κs. search needs) (λ c κs. search needs) (λ c κs. search needs) returns)
+unfolding withIv
+add-iv-spec = tie.close (tie.spec (λ c κs. search needs) (λ c κs. search needs) (λ c κs. search needs) (λ c. let w = c .before in rw (c .modify .ensures, w .iv-words .ensures, w .before .parts4 .ensures)))

@@ -18,10 +18,6 @@ Inv-loop ks₀ s₀ at₀ ks s at = Filling gen 16 s₀ ks₀ ks s at
 abbrev μ-loop : tie.MeasureT-loop
 μ-loop ks₀ s₀ at₀ ks s at = length ks₀ - at
 
-loop-holds : tie.Need-loop-holds Inv-loop μ-loop
-unfolding gen
-loop-holds c = filling-start gen 16 (omega arith) refl
-
 unit-requires : tie.Need-unit-requires Inv-loop μ-loop
 unit-requires c κs =
     let l = c .before .before in
@@ -39,12 +35,6 @@ add-at c =
     let w = i .whole in
     let m = i .same-length in
     record { fits = omega arith }
-
-loop-less : tie.Need-loop-less Inv-loop μ-loop
-loop-less c =
-    let l = c .before .before .before .before .before .before .before .before .before .before .before in
-    let m = l .loop .inv .same-length in
-    omega arith
 
 loop-again : tie.Need-loop-again Inv-loop μ-loop
 unfolding gen
@@ -72,6 +62,9 @@ returns c =
     filling-end gen 16 (omega arith) refl i e
 
 pub fill-spec : {M : Type 1} → statement M
+unfolding gen
 fill-spec =
-    tie.close (tie.spec Inv-loop μ-loop loop-holds (λ c. search needs) (λ c. search needs) (λ c. search needs)
-    unit-requires (λ c κs. search needs) (λ c κs. search needs) (λ c κs. search needs) add-at loop-less loop-again same-length returns)
+    tie.close (tie.spec Inv-loop μ-loop (λ c. filling-start gen 16 (omega arith) refl) (λ c. search needs) (λ c. search needs) (λ c. search needs) unit-requires (λ c κs. search needs)
+    (λ c κs. search needs) (λ c κs. search needs) add-at
+    (λ c. let l = c .before .before .before .before .before .before .before .before .before .before .before in let m = l .loop .inv .same-length in omega arith) loop-again same-length
+    returns)

@@ -5,10 +5,6 @@ use borrow.Author.Needs.{needs}
 use Rattle.rabbit.proofs.Rabbit.init.Statement.{statement}
 use Rattle.rabbit.proofs.Rabbit.init.Tie as tie
 
-returns : tie.Need-returns
-unfolding init
-returns c = rw (c .start .ensures, c .before .master .ensures)
-
 pub init-spec : {M : Type 1} → statement M
-init-spec =
-    tie.close (tie.spec (λ c κs. search needs) (λ c κs. search needs) returns)
+unfolding init
+init-spec = tie.close (tie.spec (λ c κs. search needs) (λ c κs. search needs) (λ c. rw (c .start .ensures, c .before .master .ensures)))

@@ -5,10 +5,6 @@ use borrow.Author.Needs.{needs}
 use Rattle.rabbit.proofs.Rabbit.load.Statement.{statement}
 use Rattle.rabbit.proofs.Rabbit.load.Tie as tie
 
-returns : tie.Need-returns
-unfolding loaded arranged
-returns c = rw (c .arrange-c .ensures, c .before .arrange-x .ensures, c .before .before .parts8 .ensures)
-
 pub load-spec : {M : Type 1} → statement M
-load-spec =
-    tie.close (tie.spec (λ c κs. search needs) (λ c κs. search needs) (λ c κs. search needs) returns)
+unfolding loaded arranged
+load-spec = tie.close (tie.spec (λ c κs. search needs) (λ c κs. search needs) (λ c κs. search needs) (λ c. rw (c .arrange-c .ensures, c .before .arrange-x .ensures, c .before .before .parts8 .ensures)))

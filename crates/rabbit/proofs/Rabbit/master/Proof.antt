@@ -5,10 +5,6 @@ use borrow.Author.Needs.{needs}
 use Rattle.rabbit.proofs.Rabbit.master.Statement.{statement}
 use Rattle.rabbit.proofs.Rabbit.master.Tie as tie
 
-returns : tie.Need-returns
-unfolding master
-returns c = rw (c .four .ensures, c .before .load .ensures)
-
 pub master-spec : {M : Type 1} → statement M
-master-spec =
-    tie.close (tie.spec (λ c κs. search needs) (λ c κs. search needs) returns)
+unfolding master
+master-spec = tie.close (tie.spec (λ c κs. search needs) (λ c κs. search needs) (λ c. rw (c .four .ensures, c .before .load .ensures)))

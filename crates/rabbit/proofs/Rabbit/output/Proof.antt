@@ -7,17 +7,6 @@ use borrow.Author.Needs.{needs}
 use Rattle.rabbit.proofs.Rabbit.output.Statement.{statement}
 use Rattle.rabbit.proofs.Rabbit.output.Tie as tie
 
-returns : tie.Need-returns
-unfolding strm
-returns c =
-    cons (c .before .before .before .part .ensures)
-    (cons (c .before .before .part2 .ensures)
-    (cons (c .before .part3 .ensures)
-    (cons (c .part4 .ensures)
-    refl)))
-
 pub output-spec : {M : Type 1} → statement M
-output-spec =
-    tie.close (tie.spec (search needs) (search needs) (search needs) (λ c κs. search needs) (search needs)
-    (search needs) (search needs) (λ c κs. search needs) (search needs) (search needs) (search needs)
-    (λ c κs. search needs) (search needs) (search needs) (search needs) (λ c κs. search needs) returns)
+unfolding strm
+output-spec = tie.close (tie.spec (search needs) (search needs) (search needs) (λ c κs. search needs) (search needs) (search needs) (search needs) (λ c κs. search needs) (search needs) (search needs) (search needs) (λ c κs. search needs) (search needs) (search needs) (search needs) (λ c κs. search needs) (λ c. cons (c .before .before .before .part .ensures) (cons (c .before .before .part2 .ensures) (cons (c .before .part3 .ensures) (cons (c .part4 .ensures) refl)))))

@@ -5,10 +5,6 @@ use borrow.Author.Needs.{needs}
 use Rattle.rabbit.proofs.Rabbit.start.Statement.{statement}
 use Rattle.rabbit.proofs.Rabbit.start.Tie as tie
 
-returns : tie.Need-returns
-unfolding started
-returns c = rw (c .step .ensures, c .before .four .ensures, c .before .before .add-iv .ensures)
-
 pub start-spec : {M : Type 1} → statement M
-start-spec =
-    tie.close (tie.spec (λ c κs. search needs) (λ c κs. search needs) (λ c κs. search needs) returns)
+unfolding started
+start-spec = tie.close (tie.spec (λ c κs. search needs) (λ c κs. search needs) (λ c κs. search needs) (λ c. rw (c .step .ensures, c .before .four .ensures, c .before .before .add-iv .ensures)))

@@ -5,10 +5,6 @@ use borrow.Author.Needs.{needs}
 use Rattle.rabbit.proofs.Rabbit.step.Statement.{statement}
 use Rattle.rabbit.proofs.Rabbit.step.Tie as tie
 
-returns : tie.Need-returns
-unfolding next
-returns c = rw (c .mix .ensures, c .before .gs .ensures, c .before .before .before .count .ensures)
-
 pub step-spec : {M : Type 1} → statement M
-step-spec =
-    tie.close (tie.spec (λ c κs. search needs) (λ c κs. search needs) (λ c κs. search needs) returns)
+unfolding next
+step-spec = tie.close (tie.spec (λ c κs. search needs) (λ c κs. search needs) (λ c κs. search needs) (λ c. rw (c .mix .ensures, c .before .gs .ensures, c .before .before .before .count .ensures)))

@@ -5,10 +5,6 @@ use Rattle.rabbit.specs.Tables.{aList}
 use Rattle.rabbit.proofs.tables.a.Statement.{statement}
 use Rattle.rabbit.proofs.tables.a.Tie as tie
 
-returns : tie.Need-returns
-unfolding aList
-returns c = refl
-
 pub a-spec : {M : Type 1} → statement M
-a-spec =
-    tie.close (tie.spec returns)
+unfolding aList
+a-spec = tie.close (tie.spec (λ c. refl))

@@ -5,12 +5,6 @@ use borrow.Author.Needs.{needs}
 use Rattle.snow2.proofs.Snow2.clock.Statement.{statement}
 use Rattle.snow2.proofs.Snow2.clock.Tie as tie
 
-returns : tie.Need-returns
-unfolding clocked
-returns c =
-    let r1 = c .before in
-    rw (c .sub-word .ensures, r1 .wrapping-add-u32 .ensures, r1 .before .shift16 .ensures)
-
 pub clock-spec : {M : Type 1} → statement M
-clock-spec =
-    tie.close (tie.spec (λ c κs. search needs) (search needs) (λ c κs. search needs) (λ c κs. search needs) returns)
+unfolding clocked
+clock-spec = tie.close (tie.spec (λ c κs. search needs) (search needs) (λ c κs. search needs) (λ c κs. search needs) (λ c. let r1 = c .before in rw (c .sub-word .ensures, r1 .wrapping-add-u32 .ensures, r1 .before .shift16 .ensures)))

@@ -10,13 +10,6 @@ use borrow.Author.Needs.{needs}
 use Rattle.snow2.proofs.Snow2.feed.Statement.{statement}
 use Rattle.snow2.proofs.Snow2.feed.Tie as tie
 
-returns : tie.Need-returns
-unfolding fed
-returns c =
-    let k = c .before .before .before in
-    rw (c .times-inverse .ensures, c .before .times-alpha .ensures field (subst (λ (t : List ℕ). Products field (field .y4) t) (sym (k .pre .0)) alpha-rule))
-
 pub feed-spec : {M : Type 1} → statement M
-feed-spec =
-    tie.close (tie.spec (search needs) (λ c κs. search needs) (search needs) (search needs) (λ c κs. search needs)
-    returns)
+unfolding fed
+feed-spec = tie.close (tie.spec (search needs) (λ c κs. search needs) (search needs) (search needs) (λ c κs. search needs) (λ c. let k = c .before .before .before in rw (c .times-inverse .ensures, c .before .times-alpha .ensures field (subst (λ (t : List ℕ). Products field (field .y4) t) (sym (k .pre .0)) alpha-rule))))

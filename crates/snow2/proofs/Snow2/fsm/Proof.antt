@@ -5,10 +5,6 @@ use borrow.Author.Needs.{needs}
 use Rattle.snow2.proofs.Snow2.fsm.Statement.{statement}
 use Rattle.snow2.proofs.Snow2.fsm.Tie as tie
 
-returns : tie.Need-returns
-unfolding f
-returns c = rw (c .before .wrapping-add-u32 .ensures)
-
 pub fsm-spec : {M : Type 1} → statement M
-fsm-spec =
-    tie.close (tie.spec (search needs) (λ c κs. search needs) returns)
+unfolding f
+fsm-spec = tie.close (tie.spec (search needs) (λ c κs. search needs) (λ c. rw (c .before .wrapping-add-u32 .ensures)))

@@ -5,10 +5,6 @@ use borrow.Author.Needs.{needs}
 use Rattle.snow2.proofs.Snow2.init128.Statement.{statement}
 use Rattle.snow2.proofs.Snow2.init128.Tie as tie
 
-returns : tie.Need-returns
-unfolding init128
-returns c = rw (c .start .ensures, c .before .load128 .ensures)
-
 pub init128-spec : {M : Type 1} → statement M
-init128-spec =
-    tie.close (tie.spec (λ c κs. search needs) (λ c κs. search needs) returns)
+unfolding init128
+init128-spec = tie.close (tie.spec (λ c κs. search needs) (λ c κs. search needs) (λ c. rw (c .start .ensures, c .before .load128 .ensures)))

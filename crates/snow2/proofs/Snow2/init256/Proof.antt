@@ -5,10 +5,6 @@ use borrow.Author.Needs.{needs}
 use Rattle.snow2.proofs.Snow2.init256.Statement.{statement}
 use Rattle.snow2.proofs.Snow2.init256.Tie as tie
 
-returns : tie.Need-returns
-unfolding init256
-returns c = rw (c .start .ensures, c .before .load256 .ensures)
-
 pub init256-spec : {M : Type 1} → statement M
-init256-spec =
-    tie.close (tie.spec (λ c κs. search needs) (λ c κs. search needs) returns)
+unfolding init256
+init256-spec = tie.close (tie.spec (λ c κs. search needs) (λ c κs. search needs) (λ c. rw (c .start .ensures, c .before .load256 .ensures)))

@@ -5,14 +5,6 @@ use borrow.Author.Needs.{needs}
 use Rattle.snow2.proofs.Snow2.load128.Statement.{statement}
 use Rattle.snow2.proofs.Snow2.load128.Tie as tie
 
-returns : tie.Need-returns
-unfolding loaded128
-returns c =
-    let v = c .before in
-    let n = v .before in
-    rw (c .arrange .ensures, v .four-at2 .ensures, n .not4 .ensures, n .before .four-at .ensures)
-
 pub load128-spec : {M : Type 1} → statement M
-load128-spec =
-    tie.close (tie.spec (λ c κs. search needs) (λ c κs. search needs) (λ c κs. search needs) (λ c κs. search needs)
-    returns)
+unfolding loaded128
+load128-spec = tie.close (tie.spec (λ c κs. search needs) (λ c κs. search needs) (λ c κs. search needs) (λ c κs. search needs) (λ c. let v = c .before in let n = v .before in rw (c .arrange .ensures, v .four-at2 .ensures, n .not4 .ensures, n .before .four-at .ensures)))

@@ -5,15 +5,6 @@ use borrow.Author.Needs.{needs}
 use Rattle.snow2.proofs.Snow2.load256.Statement.{statement}
 use Rattle.snow2.proofs.Snow2.load256.Tie as tie
 
-returns : tie.Need-returns
-unfolding loaded256
-returns c =
-    let v = c .before in
-    let n = v .before in
-    let l = n .before .before in
-    rw (c .arrange .ensures, v .four-at3 .ensures, n .not42 .ensures, n .before .not4 .ensures, l .four-at2 .ensures, l .before .four-at .ensures)
-
 pub load256-spec : {M : Type 1} → statement M
-load256-spec =
-    tie.close (tie.spec (λ c κs. search needs) (λ c κs. search needs) (λ c κs. search needs) (λ c κs. search needs)
-    (λ c κs. search needs) (λ c κs. search needs) returns)
+unfolding loaded256
+load256-spec = tie.close (tie.spec (λ c κs. search needs) (λ c κs. search needs) (λ c κs. search needs) (λ c κs. search needs) (λ c κs. search needs) (λ c κs. search needs) (λ c. let v = c .before in let n = v .before in let l = n .before .before in rw (c .arrange .ensures, v .four-at3 .ensures, n .not42 .ensures, n .before .not4 .ensures, l .four-at2 .ensures, l .before .four-at .ensures)))

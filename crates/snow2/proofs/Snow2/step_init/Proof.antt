@@ -5,10 +5,6 @@ use borrow.Author.Needs.{needs}
 use Rattle.snow2.proofs.Snow2.step_init.Statement.{statement}
 use Rattle.snow2.proofs.Snow2.step_init.Tie as tie
 
-returns : tie.Need-returns
-unfolding nextInit
-returns c = rw (c .clock .ensures, c .before .fsm .ensures, c .before .before .feed .ensures)
-
 pub step-init-spec : {M : Type 1} → statement M
-step-init-spec =
-    tie.close (tie.spec (λ c κs. search needs) (λ c κs. search needs) (λ c κs. search needs) returns)
+unfolding nextInit
+step-init-spec = tie.close (tie.spec (λ c κs. search needs) (λ c κs. search needs) (λ c κs. search needs) (λ c. rw (c .clock .ensures, c .before .fsm .ensures, c .before .before .feed .ensures)))

@@ -5,10 +5,6 @@ use Rattle.snow2.specs.Tables.{alphaList}
 use Rattle.snow2.proofs.tables.alpha.Statement.{statement}
 use Rattle.snow2.proofs.tables.alpha.Tie as tie
 
-returns : tie.Need-returns
-unfolding alphaList
-returns c = refl
-
 pub alpha-spec : {M : Type 1} → statement M
-alpha-spec =
-    tie.close (tie.spec returns)
+unfolding alphaList
+alpha-spec = tie.close (tie.spec (λ c. refl))

@@ -5,10 +5,6 @@ use Rattle.snow2.specs.Tables.{inverseList}
 use Rattle.snow2.proofs.tables.inverse.Statement.{statement}
 use Rattle.snow2.proofs.tables.inverse.Tie as tie
 
-returns : tie.Need-returns
-unfolding inverseList
-returns c = refl
-
 pub inverse-spec : {M : Type 1} → statement M
-inverse-spec =
-    tie.close (tie.spec returns)
+unfolding inverseList
+inverse-spec = tie.close (tie.spec (λ c. refl))

@@ -16,21 +16,9 @@ Inv-loop key iv t1 t2 s₀ i₀ s i = (i ≤ 32) × (s ≡ iter i nextInit s₀)
 abbrev μ-loop : tie.MeasureT-loop
 μ-loop key iv t1 t2 s₀ i₀ s i = 32 - i
 
-loop-holds : tie.Need-loop-holds Inv-loop μ-loop
-unfolding iter
-loop-holds c = (search needs, refl)
-
-loop-again : tie.Need-loop-again Inv-loop μ-loop
-loop-again c = (omega arith, rw (c .step-init .ensures, c .before .before .loop .inv .1, iter-more))
-
-returns : tie.Need-returns Inv-loop μ-loop
-unfolding init
-returns c =
-    let p = c .before .before in
-    let e : p .loop .i ≡ 32 = omega arith in
-    rw (c .step .ensures, p .loop .inv .1, e, p .before .load .ensures)
-
 pub init-spec : {M : Type 1} → statement M
+unfolding init iter
 init-spec =
-    tie.close (tie.spec Inv-loop μ-loop (λ c κs. search needs) loop-holds (λ c κs. search needs) (search needs)
-    (search needs) loop-again (λ c κs. search needs) returns)
+    tie.close (tie.spec Inv-loop μ-loop (λ c κs. search needs) (λ c. (search needs, refl)) (λ c κs. search needs) (search needs) (search needs)
+    (λ c. (omega arith, rw (c .step-init .ensures, c .before .before .loop .inv .1, iter-more))) (λ c κs. search needs)
+    (λ c. let p = c .before .before in let e : p .loop .i ≡ 32 = omega arith in rw (c .step .ensures, p .loop .inv .1, e, p .before .load .ensures)))

@@ -5,10 +5,6 @@ use borrow.Author.Needs.{needs}
 use Rattle.zuc.proofs.Zuc.output.Statement.{statement}
 use Rattle.zuc.proofs.Zuc.output.Tie as tie
 
-returns : tie.Need-returns
-unfolding strm
-returns c = rw (c .low-high .ensures, c .before .word .ensures)
-
 pub output-spec : {M : Type 1} → statement M
-output-spec =
-    tie.close (tie.spec (search needs) (search needs) (search needs) (search needs) returns)
+unfolding strm
+output-spec = tie.close (tie.spec (search needs) (search needs) (search needs) (search needs) (λ c. rw (c .low-high .ensures, c .before .word .ensures)))

@@ -5,11 +5,6 @@ use borrow.Author.Needs.{needs}
 use Rattle.zuc.proofs.Zuc.step.Statement.{statement}
 use Rattle.zuc.proofs.Zuc.step.Tie as tie
 
-returns : tie.Need-returns
-unfolding next fed
-returns c = rw (c .clock .ensures, c .before .feedback .ensures, c .before .before .weigh .ensures .0)
-
 pub step-spec : {M : Type 1} → statement M
-step-spec =
-    tie.close (tie.spec (search needs) (search needs) (search needs) (search needs) (search needs)
-    (λ c κs. search needs) (λ c κs. search needs) (λ c κs. search needs) returns)
+unfolding next fed
+step-spec = tie.close (tie.spec (search needs) (search needs) (search needs) (search needs) (search needs) (λ c κs. search needs) (λ c κs. search needs) (λ c κs. search needs) (λ c. rw (c .clock .ensures, c .before .feedback .ensures, c .before .before .weigh .ensures .0)))

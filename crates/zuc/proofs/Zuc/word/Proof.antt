@@ -5,10 +5,6 @@ use borrow.Author.Needs.{needs}
 use Rattle.zuc.proofs.Zuc.word.Statement.{statement}
 use Rattle.zuc.proofs.Zuc.word.Tie as tie
 
-returns : tie.Need-returns
-unfolding w
-returns c = rw (c .wrapping-add-u32 .ensures, c .before .before .high-low .ensures)
-
 pub word-spec : {M : Type 1} → statement M
-word-spec =
-    tie.close (tie.spec (search needs) (search needs) (search needs) (search needs) returns)
+unfolding w
+word-spec = tie.close (tie.spec (search needs) (search needs) (search needs) (search needs) (λ c. rw (c .wrapping-add-u32 .ensures, c .before .before .high-low .ensures)))

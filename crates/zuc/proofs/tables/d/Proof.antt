@@ -5,10 +5,6 @@ use Rattle.zuc.specs.Tables.{d}
 use Rattle.zuc.proofs.tables.d.Statement.{statement}
 use Rattle.zuc.proofs.tables.d.Tie as tie
 
-returns : tie.Need-returns
-unfolding d
-returns c = refl
-
 pub d-spec : {M : Type 1} → statement M
-d-spec =
-    tie.close (tie.spec returns)
+unfolding d
+d-spec = tie.close (tie.spec (λ c. refl))

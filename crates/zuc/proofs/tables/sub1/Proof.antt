@@ -5,10 +5,6 @@ use Rattle.zuc.specs.Tables.{sub1}
 use Rattle.zuc.proofs.tables.sub1.Statement.{statement}
 use Rattle.zuc.proofs.tables.sub1.Tie as tie
 
-returns : tie.Need-returns
-unfolding sub1
-returns c = refl
-
 pub sub1-spec : {M : Type 1} → statement M
-sub1-spec =
-    tie.close (tie.spec returns)
+unfolding sub1
+sub1-spec = tie.close (tie.spec (λ c. refl))
