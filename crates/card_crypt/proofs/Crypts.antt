@@ -15,7 +15,7 @@ use Rattle.ciphers.specs.Table.{cipherAt, isCipher}
 use Rattle.ciphers.proofs.Sound.{sound}
 use Rattle.ciphers.proofs.Tests.{both-left, both-right}
 use Rattle.card_sizes.specs.Sizes.{stateWords}
-use Rattle.card_layout.proofs.Lines.{Plain}
+use Rattle.card_line.proofs.Lines.{Plain}
 use Rattle.machine.specs.Machine.{Line, based, shown, moved, stateOf, unitAt, byteOf, enciphered, limit, openOk}
 
 -- a crypt from a place within a unit is one from the line's position

@@ -6,7 +6,7 @@ use Prim.Native.Nat.{ℕ}
 use lib.ListN.{length, drop}
 use Rattle.card_sizes.specs.Sizes.{stateWords}
 use Rattle.machine.specs.Machine.{Line, based, shown, moved, enciphered}
-use Rattle.card_layout.specs.Words.{lineWords}
+use Rattle.card_line.specs.Words.{lineWords}
 
 -- the line's words are those of the line as many bytes on, whose state is whole, and the text stands enciphered at the start of out
 pub record Crypted (l : Line) (text out line' out' : List ℕ) : Type 0 where

@@ -8,7 +8,8 @@ ghost use lib.ListN.{length};
 ghost use Rattle.card_sizes.specs.Sizes.{lineSize, lineCount};
 ghost use Rattle.command.specs.declared.Command.the-variants.{Crypt};
 ghost use Rattle.machine.specs.Machine.{limit, openOk};
-ghost use Rattle.card_layout.specs.Words.{lineIn, Sound};
+ghost use Rattle.card_line.specs.Words.{lineIn};
+ghost use Rattle.card_layout.specs.Words.{Sound};
 ghost use Rattle.card_outcome.specs.Leaves.{callOf, Does};
 ghost use Rattle.card_crypt.specs.Crypted.{Crypted};
 use card_checks::LIMIT;
@@ -28,8 +29,8 @@ fn encipher(line: &mut [u32], text: &[u8], out: &mut [u8])
     requires { ⌜ (lineIn (now line) .n + length (now text) ≤ limit) × (length (now text) ≤ length (now out)) ⌝ }
     ensures { λ _. ⌜ Crypted (lineIn (now (line .entry))) (now (text .entry)) (now (out .entry)) (now (line .exit)) (now (out .exit)) ⌝ }
 {
-    let cipher = card_layout::cipher_of(line);
-    let n = card_layout::position_of(line);
+    let cipher = card_line::cipher_of(line);
+    let n = card_line::position_of(line);
     let CipherRead::Is(c) = read_cipher(cipher) else {
         return;
     };
@@ -38,7 +39,7 @@ fn encipher(line: &mut [u32], text: &[u8], out: &mut [u8])
     let k = text.len() as u64;
     dispatch::crypt(c, &mut line[HEAD..LINE], skip, text, out);
     let next = n + k;
-    card_layout::put_head(1, cipher, next, line);
+    card_line::put_head(1, cipher, next, line);
 }
 
 // A crypt of count bytes on line i.

@@ -15,7 +15,7 @@ use Rattle.card_sizes.specs.Sizes.{imageLength}
 use Rattle.machine.specs.Fields.{spelt}
 use Rattle.machine.specs.Machine.{imageOf}
 use Rattle.machine.proofs.Fields.{image-spelt}
-use Rattle.card_layout.specs.Words.{lineIn, lineWords, LineHeld}
+use Rattle.card_line.specs.Words.{lineIn, lineWords, LineHeld}
 
 -- ---- words
 

@@ -9,7 +9,7 @@ ghost use Rattle.words.specs.Strings.{bytesOf};
 ghost use Rattle.card_sizes.specs.Sizes.{imageLength};
 ghost use Rattle.machine.specs.Fields.{spelt};
 ghost use Rattle.machine.specs.Machine.{imageOf, imageLine};
-ghost use Rattle.card_layout.specs.Words.{lineIn, LineHeld};
+ghost use Rattle.card_line.specs.Words.{lineIn, LineHeld};
 use card_sizes::IMAGE_STATE;
 use card_sizes::STATE;
 
@@ -46,7 +46,7 @@ pub fn put(line: &[u32], out: &mut [u8])
     requires { ⌜ imageLength ≤ length (now out) ⌝ }
     ensures { λ _. ⌜ (length (imageOf (lineIn (now (line .entry)))) ≡ imageLength) × (now (out .exit) ≡ imageOf (lineIn (now (line .entry))) ++ drop imageLength (now (out .entry))) ⌝ }
 {
-    let cipher = card_layout::cipher_of(line);
+    let cipher = card_line::cipher_of(line);
     out[0] = cipher;
     put_words(&line[2..], &mut out[1..]);
 }

@@ -7,7 +7,7 @@ ghost use Rattle.words.specs.Tests.{pick};
 ghost use Rattle.card_sizes.specs.Sizes.{keyLength, ivLength};
 ghost use Rattle.command.specs.Decode.{numberOf};
 ghost use Rattle.card_keys.specs.Keys.{keyCode};
-use card_checks::all_zero;
+use card_admits::all_zero;
 use card_sizes::KEY;
 use ciphers::iv_of;
 use ciphers::key_of;

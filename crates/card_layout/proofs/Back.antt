@@ -10,8 +10,9 @@ use Rattle.card_sizes.specs.Sizes.{stateWords, lineSize, lineCount, cardSize}
 use Rattle.machine.specs.Machine.{Line, MLine, Machine, Seen, shown, unitAt, seen}
 use Rattle.machine.proofs.Lines.{Good, good-idle, good-open, good-ok, shown-idle, state-fit}
 use Rattle.machine.proofs.Simulation.{AllGood, none-good, more-good}
-use Rattle.card_layout.specs.Words.{lineIn, lineWords, linesIn, linesWords, cardIn, cardWords}
-use Rattle.card_layout.proofs.Lines.{Plain, small, line-read, line-length}
+use Rattle.card_line.specs.Words.{lineIn, lineWords}
+use Rattle.card_layout.specs.Words.{linesIn, linesWords, cardIn, cardWords}
+use Rattle.card_line.proofs.Lines.{Plain, small, line-read, line-length}
 use Rattle.card_layout.proofs.Cards.{lines-first}
 
 data AllPlain : List Line → Type 0 where

@@ -12,8 +12,9 @@ use lib.Seq.{length-take-le, drop-drop, drop-at, take-at, take-add, drop-length}
 use Rattle.card_sizes.specs.Sizes.{lineSize, lineCount, cardSize}
 use Rattle.machine.specs.Machine.{Line, Seen, idleLine, withLineSeen, freshCard}
 use Rattle.machine.specs.Logs.{lineOn}
-use Rattle.card_layout.specs.Words.{lineIn, lineWords, wordsAt, linesIn, linesWords, cardIn, cardWords, putLine, LineHeld, Held, Sound}
-use Rattle.card_layout.proofs.Lines.{Plain, line-read, line-length}
+use Rattle.card_line.specs.Words.{lineIn, lineWords, LineHeld}
+use Rattle.card_layout.specs.Words.{wordsAt, linesIn, linesWords, cardIn, cardWords, putLine, Held, Sound}
+use Rattle.card_line.proofs.Lines.{Plain, line-read, line-length}
 
 -- ---- the lines of a card
 

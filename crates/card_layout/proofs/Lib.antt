@@ -1,4 +1,3 @@
-pub mod Lines
 pub mod Cards
 pub mod Back
 pub mod Several

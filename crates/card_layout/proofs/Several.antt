@@ -12,8 +12,9 @@ use Rattle.ciphers.proofs.Tests.{both-left, both-right, both-true}
 use Rattle.card_sizes.specs.Sizes.{lineSize, lineCount}
 use Rattle.machine.specs.Machine.{Line, Seen, idleLine, lineOk, allOk, cardOk}
 use Rattle.machine.specs.Logs.{lineOn}
-use Rattle.card_layout.specs.Words.{lineIn, lineWords, wordsAt, cardIn, putLine, Sound}
-use Rattle.card_layout.proofs.Lines.{Plain, line-read, line-length}
+use Rattle.card_line.specs.Words.{lineIn, lineWords}
+use Rattle.card_layout.specs.Words.{wordsAt, cardIn, putLine, Sound}
+use Rattle.card_line.proofs.Lines.{Plain, line-read, line-length}
 use Rattle.card_layout.proofs.Cards.{further, put-next, put-seen, line-here, card-lines}
 
 -- ---- the words of the lines after one was put

@@ -1,36 +1,13 @@
--- A card as words: its lines one behind the other, of each its mode, its cipher, n in two words and the words of the state. All zeros are a fresh card.
+-- A card as words: its lines one behind the other. All zeros are a fresh card.
 -- Assumes nothing.
 use mathlib.Core.Path.{_≡_}
 use mathlib.Core.Bool.{true}
 use mathlib.Core.List.{List, [], _∷_, _++_}
-use Prim.Native.Nat.{ℕ, zero, suc, _+_, _*_, _/_, _%_, _^_, _<_, min}
-use lib.ListN.{length, getD, take, drop}
-use Rattle.words.specs.Lists.{tab}
-use Rattle.card_sizes.specs.Sizes.{stateWords, headWords, lineSize, lineCount, cardSize}
+use Prim.Native.Nat.{ℕ, zero, suc, _+_, _*_, _<_}
+use lib.ListN.{length, take, drop}
+use Rattle.card_sizes.specs.Sizes.{lineSize, lineCount, cardSize}
 use Rattle.machine.specs.Machine.{Line, Seen, cardOk}
-
--- ---- a line
-
--- the line that stands in words; a mode or a cipher over 255 counts as 255, which none has
-unfoldable pub lineIn : List ℕ → Line
-lineIn ws =
-    record {
-      mode = min (getD ws 0 0) 255;
-      cipher = min (getD ws 1 0) 255;
-      n = getD ws 2 0 * 2 ^ 32 + getD ws 3 0;
-      words = tab stateWords (λ k. getD ws (headWords + k) 0);
-    }
-
--- the words of a line
-unfoldable pub lineWords : Line → List ℕ
-lineWords l = l .mode ∷ l .cipher ∷ l .n / 2 ^ 32 ∷ l .n % 2 ^ 32 ∷ l .words
-
--- words that are a line's, and nothing else
-pub record LineHeld (ws : List ℕ) : Type 0 where
-  pub size : length ws ≡ lineSize
-  pub words : lineWords (lineIn ws) ≡ ws
-
--- ---- a card
+use Rattle.card_line.specs.Words.{lineIn, lineWords}
 
 -- the words of line i among those of a card
 abbrev pub wordsAt : List ℕ → ℕ → List ℕ

@@ -1,55 +1,13 @@
-// What the words of a line and of a card are: the fields of a line read from a card's words, and a line put among them.
+// What the words of a card are: the fields of a line read from them, and a line put among them.
 // The caller must ensure that a card has its words, and that a line is one of its lines.
 ghost use mathlib.Core.Path.{_≡_};
-ghost use mathlib.Core.List.{[], _∷_, _++_};
-ghost use Prim.Native.Nat.{_*_, _/_, _%_, _^_, _<_, _≤_, min};
-ghost use lib.ListN.{length, getD, drop};
-ghost use Rattle.card_sizes.specs.Sizes.{stateWords, headWords, lineSize, lineCount, cardSize};
+ghost use Prim.Native.Nat.{_<_};
+ghost use lib.ListN.{length};
+ghost use Rattle.card_sizes.specs.Sizes.{stateWords, lineCount, cardSize};
 ghost use Rattle.machine.specs.Machine.{idleLine};
 ghost use Rattle.machine.specs.Logs.{lineOn};
-ghost use Rattle.card_layout.specs.Words.{lineIn, lineWords, cardIn, putLine};
-use card_sizes::HEAD;
+ghost use Rattle.card_layout.specs.Words.{cardIn, putLine};
 use card_sizes::LINE;
-
-// A word as a byte; one that is none counts as 255, which no mode and no cipher has.
-fn byte(w: u32) -> u8
-    ensures { λ r. ⌜ r ≡ min w 255 ⌝ }
-{
-    if w < 255 { w as u8 } else { 255 }
-}
-
-// A word as a number of 64 bits.
-fn wide(w: u32) -> u64
-    ensures { λ r. ⌜ (r ≡ w) × (r < 4294967296) ⌝ }
-{
-    w as u64
-}
-
-// The mode of the line that stands in words.
-pub fn mode_of(line: &[u32]) -> u8
-    requires { ⌜ length (now line) ≡ lineSize ⌝ }
-    ensures { λ r. ⌜ r ≡ lineIn (now (line .entry)) .mode ⌝ }
-{
-    byte(line[0])
-}
-
-// Its cipher.
-pub fn cipher_of(line: &[u32]) -> u8
-    requires { ⌜ length (now line) ≡ lineSize ⌝ }
-    ensures { λ r. ⌜ r ≡ lineIn (now (line .entry)) .cipher ⌝ }
-{
-    byte(line[1])
-}
-
-// Its position; that the lower half is a word is told as well.
-pub fn position_of(line: &[u32]) -> u64
-    requires { ⌜ length (now line) ≡ lineSize ⌝ }
-    ensures { λ r. ⌜ (r ≡ lineIn (now (line .entry)) .n) × (getD (now (line .entry)) 3 0 < 2 ^ 32) ⌝ }
-{
-    let high = wide(line[2]);
-    let low = wide(line[3]);
-    high * 4294967296 + low
-}
 
 // The mode of line i of a card.
 pub fn mode_at(card: &[u32], i: u8) -> u8
@@ -58,7 +16,7 @@ pub fn mode_at(card: &[u32], i: u8) -> u8
 {
     let at = LINE * (i as usize);
     let end = at + LINE;
-    mode_of(&card[at..end])
+    card_line::mode_of(&card[at..end])
 }
 
 // Its position.
@@ -68,18 +26,7 @@ pub fn position_at(card: &[u32], i: u8) -> u64
 {
     let at = LINE * (i as usize);
     let end = at + LINE;
-    position_of(&card[at..end])
-}
-
-// The words before a line's state go to the start of line.
-pub fn put_head(mode: u32, cipher: u8, n: u64, line: &mut [u32])
-    requires { ⌜ headWords ≤ length (now line) ⌝ }
-    ensures { λ _. ⌜ now (line .exit) ≡ (mode ∷ cipher ∷ n / 2 ^ 32 ∷ n % 2 ^ 32 ∷ []) ++ drop headWords (now (line .entry)) ⌝ }
-{
-    line[0] = mode;
-    line[1] = cipher as u32;
-    line[2] = (n / 4294967296) as u32;
-    line[3] = (n % 4294967296) as u32;
+    card_line::position_of(&card[at..end])
 }
 
 // Line i of a card is open, with this cipher, this position and this state.
@@ -90,29 +37,7 @@ pub fn put_line(cipher: u8, n: u64, state: &[u32], card: &mut [u32], i: u8)
 {
     let at = LINE * (i as usize);
     let end = at + LINE;
-    put_words(cipher, n, state, &mut card[at..end]);
-}
-
-// The words of an open line.
-fn put_words(cipher: u8, n: u64, state: &[u32], line: &mut [u32])
-    requires { ⌜ length (now line) ≡ lineSize ⌝ }
-    requires { ⌜ length (now state) ≡ stateWords ⌝ }
-    ensures { λ _. ⌜ now (line .exit) ≡ lineWords (record { mode = 1; cipher = cipher; n = n; words = now (state .entry) }) ⌝ }
-{
-    put_head(1, cipher, n, line);
-    buffer::put_words(state, &mut line[HEAD..]);
-}
-
-// All words are zero.
-fn clear(line: &mut [u32])
-    requires { ⌜ length (now line) ≡ lineSize ⌝ }
-    ensures { λ _. ⌜ now (line .exit) ≡ lineWords idleLine ⌝ }
-{
-    let mut k: usize = 0;
-    while k < LINE {
-        line[k] = 0;
-        k += 1;
-    }
+    card_line::put_words(cipher, n, state, &mut card[at..end]);
 }
 
 // Line i of a card is idle.
@@ -122,5 +47,5 @@ pub fn clear_line(card: &mut [u32], i: u8)
 {
     let at = LINE * (i as usize);
     let end = at + LINE;
-    clear(&mut card[at..end]);
+    card_line::clear(&mut card[at..end]);
 }

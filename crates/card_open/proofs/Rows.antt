@@ -17,7 +17,7 @@ use Rattle.command.specs.declared.Cipher.the-variants.{Zuc, Rabbit, Snow128, Sn
 use Rattle.command.specs.Decode.{numberOf}
 use Rattle.machine.specs.Machine.{Line, shown, trayOk, opened}
 use Rattle.machine.proofs.OneStream.{opened-shown}
-use Rattle.card_layout.proofs.Lines.{Plain}
+use Rattle.card_line.proofs.Lines.{Plain}
 use Rattle.card_keys.specs.Keys.{openWith}
 use Rattle.card_outcome.specs.declared.Outcome.{Outcome}
 use Rattle.card_outcome.specs.Leaves.{Gives}

@@ -20,8 +20,9 @@ use Rattle.machine.specs.Machine.{Line, MLine, Machine, View, Seen, Shown, noVi
 use Rattle.machine.specs.Logs.{lineOn}
 use Rattle.machine.proofs.Lines.{shown-based, shown-idle}
 use Rattle.machine.proofs.Seen.{seen-back, seen-with}
-use Rattle.card_layout.specs.Words.{lineIn, wordsAt, cardIn, cardWords, putLine, Sound}
-use Rattle.card_layout.proofs.Lines.{Plain, ok-plain, idle-plain}
+use Rattle.card_line.specs.Words.{lineIn}
+use Rattle.card_layout.specs.Words.{wordsAt, cardIn, cardWords, putLine, Sound}
+use Rattle.card_line.proofs.Lines.{Plain, ok-plain, idle-plain}
 use Rattle.card_layout.proofs.Cards.{line-here, card-lines, put-seen, put-words}
 use Rattle.card_outcome.specs.declared.Outcome.{Outcome}
 use Rattle.card_outcome.specs.Outcomes.{refusal, acceptance, outcomeOf}

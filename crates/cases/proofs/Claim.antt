@@ -5,7 +5,7 @@ use mathlib.Core.List.{map}
 use Rattle.words.specs.Strings.{wordAt, fourAt}
 use Rattle.field.specs.Gf32.{times, timesY}
 use Rattle.field.specs.Aes.{sub, mix, fnT}
-use Rattle.zuc.specs.Tables.{sub1, sub2, d}
+use Rattle.zuc_tables.specs.Tables.{sub1, sub2, d}
 use Rattle.zuc.specs.Cipher.{loaded, weighed, mended, fed, l1, l2}
 use Rattle.rabbit.specs.Cipher.{g}
 use Rattle.snow2.specs.Cipher.{cells, nots, loaded128}

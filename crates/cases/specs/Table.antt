@@ -5,11 +5,12 @@ use Prim.Native.Nat.{ℕ, _-_, _^_}
 use lib.ListN.{getD, replicate}
 use Rattle.field.specs.Gf32.{times, alpha}
 use Rattle.field.specs.Aes.{fnT}
-use Rattle.zuc.specs.Tables.{sub1, sub2}
+use Rattle.zuc_tables.specs.Tables.{sub1, sub2}
 use Rattle.zuc.specs.Cipher.{cell as zucCell, loaded as zucLoaded, fed as zucFed, l1, l2}
 use Rattle.zuc.specs.declared.Zuc.{Zuc}
 use Rattle.rabbit.specs.Cipher.{g}
-use Rattle.snow2.specs.Cipher.{field, cell as snowCell, loaded128}
+use Rattle.snow2_tables.specs.Tables.{field}
+use Rattle.snow2.specs.Cipher.{cell as snowCell, loaded128}
 use Rattle.snow2.specs.declared.Snow2.{Snow2}
 
 pub record Row : Type 0 where

@@ -12,7 +12,8 @@ use Rattle.words.proofs.Ranges.{at-word, all-append, all-shifted, length-shifte
 use Rattle.field.specs.Gf32.{alpha}
 use Rattle.field.proofs.Elements.{times-word}
 use Rattle.field.proofs.Columns.{fnT-word}
-use Rattle.kcipher2.specs.Cipher.{field0, field1, field2, field3, cellA, cellB, pick, strmHigh, strmLow, fedA, fedB, oneOrTwo, threeOrNone, clocked, next, nextInit, firstOf, expanded, cellsA, cellsB, arranged, key4, loaded, init, unit, u}
+use Rattle.kcipher2_tables.specs.Tables.{field0, field1, field2, field3}
+use Rattle.kcipher2.specs.Cipher.{cellA, cellB, pick, strmHigh, strmLow, fedA, fedB, oneOrTwo, threeOrNone, clocked, next, nextInit, firstOf, expanded, cellsA, cellsB, arranged, key4, loaded, init, unit, u}
 use Rattle.kcipher2.specs.Range.{InRange}
 use Rattle.kcipher2.specs.declared.Kcipher2.{Kcipher2}
 

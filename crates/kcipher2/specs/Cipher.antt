@@ -6,23 +6,10 @@ use lib.ListN.{getD}
 use Rattle.words.specs.Word.{_⊕_, _+₃₂_, rotl, bit}
 use Rattle.words.specs.Strings.{fourAt, bytesOf}
 use Rattle.words.specs.Lists.{shifted, iter}
-use Rattle.field.specs.Gf32.{Field, times, alpha}
+use Rattle.field.specs.Gf32.{times, alpha}
 use Rattle.field.specs.Aes.{fnT}
+use Rattle.kcipher2_tables.specs.Tables.{field0, field1, field2, field3}
 use Rattle.kcipher2.specs.declared.Kcipher2.{Kcipher2}
-
--- the fields of α0 to α3, each with a GF(2^8) of its own: x^8 + x^7 + x^6 + x + 1, x^8 + x^5 + x^3 + x^2 + 1, x^8 + x^6 + x^3 + x^2 + 1 and
--- x^8 + x^6 + x^5 + x^2 + 1. No document prints them; the printed tables are their products with y^4.
-abbrev pub field0 : Field
-field0 = record { modulus = 0x1c3; y4 = 0xb6086d1a }
-
-abbrev pub field1 : Field
-field1 = record { modulus = 0x12d; y4 = 0xa0f5fc2e }
-
-abbrev pub field2 : Field
-field2 = record { modulus = 0x14d; y4 = 0x5bf87f93 }
-
-abbrev pub field3 : Field
-field3 = record { modulus = 0x165; y4 = 0x4559568b }
 
 -- Am and Bm
 abbrev pub cellA : Kcipher2 → ℕ → ℕ

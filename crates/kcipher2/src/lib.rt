@@ -1,18 +1,11 @@
-// KCipher-2 (ISO/IEC 18033-4, 8.5): a state by value, its steps in both modes, its output, its keystream in a buffer and its start from key and IV.
-// A caller holds the lengths of key and IV, sixteen bytes each, and lends the tables that `tables` and `field::tables::column` make.
-pub mod tables;
-
+// KCipher-2 (ISO/IEC 18033-4, 8.5): a state by value, its steps in both modes and its output.
+// A caller lends the tables that `kcipher2_tables` and `field::tables::column` make.
 ghost use mathlib.Core.Path.{_≡_};
-ghost use mathlib.Core.List.{_++_};
-ghost use Prim.Native.Nat.{_%_, _<_, _≤_};
-ghost use lib.ListN.{length, drop};
-ghost use Rattle.words.specs.Strings.{bytesOf};
+ghost use Prim.Native.Nat.{_<_};
 ghost use Rattle.words.specs.Lists.{shifted};
-ghost use Rattle.keystream.specs.Stream.{Filled};
 ghost use Rattle.field.specs.Tables.{columnList};
-ghost use Rattle.kcipher2.specs.Tables.{alpha0List, alpha1List, alpha2List, alpha3List, Lent};
-ghost use Rattle.kcipher2.specs.Cipher.{pick as pickOf, nlf as nlfOf, oneOrTwo, threeOrNone, strmHigh, strmLow, strm, fedA, fedB, moved as movedOf, right as rightOf, left as leftOf, clocked, next, nextInit, expanded, cellsA, cellsB, loaded, init as initOf, unit as unitOf};
-ghost use Rattle.kcipher2.specs.Generator.{gen};
+ghost use Rattle.kcipher2_tables.specs.Tables.{alpha0List, alpha1List, alpha2List, alpha3List, Lent};
+ghost use Rattle.kcipher2.specs.Cipher.{pick as pickOf, nlf as nlfOf, oneOrTwo, threeOrNone, strmHigh, strmLow, strm, fedA, fedB, moved as movedOf, right as rightOf, left as leftOf, clocked, next, nextInit};
 
 // A0..A4, B0..B10, R1, L1, R2 and L2.
 pub struct Kcipher2 {
@@ -84,78 +77,7 @@ fn shift11(b: [u32; 11], x: u32) -> [u32; 11]
     ]
 }
 
-// The next four words of the internal key.
-fn expand(k: [u32; 4], rcon: u32, t: &[u32; 256]) -> [u32; 4]
-    requires { ⌜ now t ≡ columnList ⌝ }
-    ensures { λ r. ⌜ r ≡ expanded k rcon ⌝ }
-{
-    let x0 = k[0] ^ field::sub_word(t, words::rotl8(k[3])) ^ rcon;
-    let x1 = k[1] ^ x0;
-    let x2 = k[2] ^ x1;
-    let x3 = k[3] ^ x2;
-    [x0, x1, x2, x3]
-}
-
-// A0..A4 of words 0 to 3 of the internal key, k, and 4 to 7, e.
-fn arrange_a(k: [u32; 4], e: [u32; 4]) -> [u32; 5]
-    ensures { λ r. ⌜ r ≡ cellsA k e ⌝ }
-{
-    [e[0], k[3], k[2], k[1], k[0]]
-}
-
-// B0..B10 of words 4 to 7 of the internal key, e, and 8 to 11, g, and of the IV's words v.
-fn arrange_b(e: [u32; 4], g: [u32; 4], v: [u32; 4]) -> [u32; 11]
-    ensures { λ r. ⌜ r ≡ cellsB e g v ⌝ }
-{
-    [
-        g[2],
-        g[3],
-        v[0],
-        v[1],
-        g[0],
-        g[1],
-        v[2],
-        v[3],
-        e[3],
-        e[1],
-        e[2],
-    ]
-}
-
-// The bytes of w, most significant first, go to the start of out.
-fn put_down(w: u32, out: &mut [u8])
-    requires { ⌜ 4 ≤ length (now out) ⌝ }
-    ensures { λ _. ⌜ now (out .exit) ≡ bytesOf w ++ drop 4 (now (out .entry)) ⌝ }
-{
-    out[0] = (w / 16777216 % 256) as u8;
-    out[1] = (w / 65536 % 256) as u8;
-    out[2] = (w / 256 % 256) as u8;
-    out[3] = (w % 256) as u8;
-}
-
 impl Kcipher2 {
-    // The state of key and IV before any step.
-    pub fn load(key: &[u8], iv: &[u8], t: &[u32; 256]) -> Kcipher2
-        requires { ⌜ length (now key) ≡ 16 ⌝ }
-        requires { ⌜ length (now iv) ≡ 16 ⌝ }
-        requires { ⌜ now t ≡ columnList ⌝ }
-        ensures { λ r. ⌜ r ≡ loaded (now (key .entry)) (now (iv .entry)) ⌝ }
-    {
-        let k = words::four_at(key, 0);
-        let e = expand(k, 16777216, t);
-        let g = expand(e, 33554432, t);
-        let a = arrange_a(k, e);
-        let b = arrange_b(e, g, words::four_at(iv, 0));
-        Kcipher2 {
-            a,
-            b,
-            r1: 0,
-            l1: 0,
-            r2: 0,
-            l2: 0,
-        }
-    }
-
     // The high word of Strm.
     fn high(self) -> u32
         ensures { λ r. ⌜ r ≡ strmHigh self ⌝ }
@@ -175,7 +97,7 @@ impl Kcipher2 {
     }
 
     // The word that comes into A.
-    fn feed_a(self, m0: &[u32; 256]) -> u32
+    pub fn feed_a(self, m0: &[u32; 256]) -> u32
         requires { ⌜ now m0 ≡ alpha0List ⌝ }
         ensures { λ r. ⌜ r ≡ fedA self ⌝ }
     {
@@ -184,7 +106,7 @@ impl Kcipher2 {
     }
 
     // The word that comes into B.
-    fn feed_b(self, m1: &[u32; 256], m2: &[u32; 256], m3: &[u32; 256]) -> u32
+    pub fn feed_b(self, m1: &[u32; 256], m2: &[u32; 256], m3: &[u32; 256]) -> u32
         requires { ⌜ now m1 ≡ alpha1List ⌝ }
         requires { ⌜ now m2 ≡ alpha2List ⌝ }
         requires { ⌜ now m3 ≡ alpha3List ⌝ }
@@ -198,7 +120,7 @@ impl Kcipher2 {
     }
 
     // The word whose T is the next R1.
-    fn right(self) -> u32
+    pub fn right(self) -> u32
         ensures { λ r. ⌜ r ≡ rightOf self ⌝ }
     {
         let b = self.b;
@@ -206,7 +128,7 @@ impl Kcipher2 {
     }
 
     // The word whose T is the next L1.
-    fn left(self) -> u32
+    pub fn left(self) -> u32
         ensures { λ r. ⌜ r ≡ leftOf self ⌝ }
     {
         let b = self.b;
@@ -214,7 +136,7 @@ impl Kcipher2 {
     }
 
     // A and B moved, with the words x and y, and the words of the nonlinear part.
-    fn moved(self, x: u32, y: u32, r1: u32, l1: u32, r2: u32, l2: u32) -> Kcipher2
+    pub fn moved(self, x: u32, y: u32, r1: u32, l1: u32, r2: u32, l2: u32) -> Kcipher2
         ensures { λ r. ⌜ r ≡ movedOf self x y r1 l1 r2 l2 ⌝ }
     {
         let a = self.a;
@@ -282,147 +204,5 @@ impl Kcipher2 {
         ensures { λ r. ⌜ r ≡ strm self ⌝ }
     {
         [self.high(), self.low()]
-    }
-
-    // The eight bytes of keystream of this state go to the start of ks.
-    pub fn unit(self, ks: &mut [u8])
-        requires { ⌜ 8 ≤ length (now ks) ⌝ }
-        ensures { λ _. ⌜ now (ks .exit) ≡ unitOf self ++ drop 8 (now (ks .entry)) ⌝ }
-    {
-        let z = self.output();
-        put_down(z[0], ks);
-        put_down(z[1], &mut ks[4..]);
-    }
-
-    // Four units go to the start of ks; the state that comes back is that of the next. The steps are written out in small parts, since a step that is called
-    // from four places is not compiled into the loop: r, l, p and q are a step's R1, L1, R2 and L2.
-    fn four(
-        self,
-        m0: &[u32; 256],
-        m1: &[u32; 256],
-        m2: &[u32; 256],
-        m3: &[u32; 256],
-        t: &[u32; 256],
-        ks: &mut [u8],
-    ) -> Kcipher2
-        requires { ⌜ Lent (now m0) (now m1) (now m2) (now m3) (now t) ⌝ }
-        requires { ⌜ 32 ≤ length (now ks) ⌝ }
-        ensures { λ r. ⌜ Filled gen self 32 (now (ks .entry)) r (now (ks .exit)) ⌝ }
-    {
-        self.unit(ks);
-        let r0 = field::sub_word(t, self.right());
-        let l0 = field::sub_word(t, self.left());
-        let p0 = field::sub_word(t, self.r1);
-        let q0 = field::sub_word(t, self.l1);
-        let s1 = self.moved(self.feed_a(m0), self.feed_b(m1, m2, m3), r0, l0, p0, q0);
-        s1.unit(&mut ks[8..]);
-        let r1 = field::sub_word(t, s1.right());
-        let l1 = field::sub_word(t, s1.left());
-        let p1 = field::sub_word(t, s1.r1);
-        let q1 = field::sub_word(t, s1.l1);
-        let s2 = s1.moved(s1.feed_a(m0), s1.feed_b(m1, m2, m3), r1, l1, p1, q1);
-        s2.unit(&mut ks[16..]);
-        let r2 = field::sub_word(t, s2.right());
-        let l2 = field::sub_word(t, s2.left());
-        let p2 = field::sub_word(t, s2.r1);
-        let q2 = field::sub_word(t, s2.l1);
-        let s3 = s2.moved(s2.feed_a(m0), s2.feed_b(m1, m2, m3), r2, l2, p2, q2);
-        s3.unit(&mut ks[24..]);
-        let r3 = field::sub_word(t, s3.right());
-        let l3 = field::sub_word(t, s3.left());
-        let p3 = field::sub_word(t, s3.r1);
-        let q3 = field::sub_word(t, s3.l1);
-        s3.moved(s3.feed_a(m0), s3.feed_b(m1, m2, m3), r3, l3, p3, q3)
-    }
-
-    // ks is filled, four units to a turn.
-    fn fours(
-        self,
-        m0: &[u32; 256],
-        m1: &[u32; 256],
-        m2: &[u32; 256],
-        m3: &[u32; 256],
-        t: &[u32; 256],
-        ks: &mut [u8],
-    ) -> Kcipher2
-        requires { ⌜ Lent (now m0) (now m1) (now m2) (now m3) (now t) ⌝ }
-        requires { ⌜ length (now ks) % 32 ≡ 0 ⌝ }
-        ensures { λ r. ⌜ Filled gen self (length (now (ks .entry))) (now (ks .entry)) r (now (ks .exit)) ⌝ }
-    {
-        let mut s = self;
-        let mut at: usize = 0;
-        while at < ks.len() {
-            s = s.four(m0, m1, m2, m3, t, &mut ks[at..]);
-            at += 32;
-        }
-        s
-    }
-
-    // ks is filled, a unit to a turn.
-    fn rest(
-        self,
-        m0: &[u32; 256],
-        m1: &[u32; 256],
-        m2: &[u32; 256],
-        m3: &[u32; 256],
-        t: &[u32; 256],
-        ks: &mut [u8],
-    ) -> Kcipher2
-        requires { ⌜ Lent (now m0) (now m1) (now m2) (now m3) (now t) ⌝ }
-        requires { ⌜ length (now ks) % 8 ≡ 0 ⌝ }
-        ensures { λ r. ⌜ Filled gen self (length (now (ks .entry))) (now (ks .entry)) r (now (ks .exit)) ⌝ }
-    {
-        let mut s = self;
-        let mut at: usize = 0;
-        while at < ks.len() {
-            s.unit(&mut ks[at..]);
-            s = s.step(m0, m1, m2, m3, t);
-            at += 8;
-        }
-        s
-    }
-
-    // ks is filled with keystream, the first byte that of this state; the state that comes back is that of the next unit.
-    pub fn fill(
-        self,
-        m0: &[u32; 256],
-        m1: &[u32; 256],
-        m2: &[u32; 256],
-        m3: &[u32; 256],
-        t: &[u32; 256],
-        ks: &mut [u8],
-    ) -> Kcipher2
-        requires { ⌜ Lent (now m0) (now m1) (now m2) (now m3) (now t) ⌝ }
-        requires { ⌜ length (now ks) % 8 ≡ 0 ⌝ }
-        ensures { λ r. ⌜ Filled gen self (length (now (ks .entry))) (now (ks .entry)) r (now (ks .exit)) ⌝ }
-    {
-        let size = ks.len();
-        let most = size - size % 32;
-        let s = self.fours(m0, m1, m2, m3, t, &mut ks[..most]);
-        s.rest(m0, m1, m2, m3, t, &mut ks[most..])
-    }
-
-    // S(0) of key and IV.
-    pub fn init(
-        key: &[u8],
-        iv: &[u8],
-        m0: &[u32; 256],
-        m1: &[u32; 256],
-        m2: &[u32; 256],
-        m3: &[u32; 256],
-        t: &[u32; 256],
-    ) -> Kcipher2
-        requires { ⌜ length (now key) ≡ 16 ⌝ }
-        requires { ⌜ length (now iv) ≡ 16 ⌝ }
-        requires { ⌜ Lent (now m0) (now m1) (now m2) (now m3) (now t) ⌝ }
-        ensures { λ r. ⌜ r ≡ initOf (now (key .entry)) (now (iv .entry)) ⌝ }
-    {
-        let mut s = Kcipher2::load(key, iv, t);
-        let mut i: usize = 0;
-        while i < 24 {
-            s = s.step_init(m0, m1, m2, m3, t);
-            i += 1;
-        }
-        s
     }
 }

@@ -88,12 +88,12 @@ pub fn open(key: &[u8], iv: &[u8]) -> [u32; STATE]
     requires { ⌜ length (now iv) ≡ 16 ⌝ }
     ensures { λ r. ⌜ r ≡ kcipher2 .init (now (key .entry)) (now (iv .entry)) ⌝ }
 {
-    let m0 = kcipher2::tables::alpha0();
-    let m1 = kcipher2::tables::alpha1();
-    let m2 = kcipher2::tables::alpha2();
-    let m3 = kcipher2::tables::alpha3();
+    let m0 = kcipher2_tables::alpha0();
+    let m1 = kcipher2_tables::alpha1();
+    let m2 = kcipher2_tables::alpha2();
+    let m3 = kcipher2_tables::alpha3();
     let t = field::tables::column();
-    words(Kcipher2::init(key, iv, &m0, &m1, &m2, &m3, &t))
+    words(kcipher2_start::init(key, iv, &m0, &m1, &m2, &m3, &t))
 }
 
 // The text goes to the start of out, XORed with the keystream from byte skip of the unit of the words' state on; w then holds the state of the unit in which
@@ -103,6 +103,6 @@ pub fn xor_text(w: &mut [u32], skip: usize, text: &[u8], out: &mut [u8])
     requires { ⌜ (skip < 8) × (length (now text) ≤ length (now out)) ⌝ }
     ensures { λ _. ⌜ (now (w .exit) ≡ stateAt (kcipher2 .gen) (now (w .entry)) 0 ((skip + length (now (text .entry))) / 8)) × (now (out .exit) ≡ xorFrom (byteAt (kcipher2 .gen) (now (w .entry)) 0) skip (now (text .entry)) ++ drop (length (now (text .entry))) (now (out .entry))) ⌝ }
 {
-    let after = crypt_kcipher2::crypt(load(w), skip, text, out);
+    let after = kcipher2_text::crypt(load(w), skip, text, out);
     store(after, w);
 }

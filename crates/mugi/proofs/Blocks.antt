@@ -20,7 +20,7 @@ use Rattle.field.specs.Aes.{aes, sub}
 use Rattle.field.specs.Tables.{subList}
 use Rattle.field.proofs.Additive.{mul-byte}
 use Rattle.field.proofs.Columns.{sub-rule, sub-byte, up1, up2, up3}
-use Rattle.mugi.specs.Tables.{mixingList}
+use Rattle.mugi_tables.specs.Tables.{mixingList}
 use Rattle.mugi.specs.Cipher.{left, right, rotl64, m, mixed, shuffled, f}
 
 moved-up : (x j k : ℕ) → x * 2 ^ k % 2 ^ (j + k) ≡ x % 2 ^ j * 2 ^ k

@@ -1,4 +1,3 @@
 pub mod Blocks
 pub mod Steps
-pub mod Filling
 pub mod Ranges

@@ -1,14 +1,10 @@
-// MUGI (ISO/IEC 18033-4, 8.1): a state by value, its step, its output, four of both at once, and its start from key and IV.
-// A caller holds the lengths of key and IV, sixteen bytes each, and lends the table that `tables` makes.
-pub mod tables;
-
+// MUGI (ISO/IEC 18033-4, 8.1): a state by value, its step, its output, and four of both at once.
+// A caller lends the table that `mugi_tables` makes.
 ghost use mathlib.Core.Path.{_≡_};
-ghost use Prim.Native.Nat.{_+_, _*_, _/_, _%_, _^_, _≤_};
-ghost use lib.ListN.{length};
+ghost use Prim.Native.Nat.{_+_, _*_, _/_, _%_, _^_};
 ghost use Rattle.words.specs.Word.{_∥_, high, low};
-ghost use Rattle.words.specs.Lists.{iter};
-ghost use Rattle.mugi.specs.Tables.{mixingList};
-ghost use Rattle.mugi.specs.Cipher.{block, left as leftOf, right as rightOf, rotl64, rotr64, blockAt, mixed as mixedOf, f as fOf, lambda1, next, strm, spread as spreadOf, turned, keyed as keyedOf, added, withIv, init as initOf};
+ghost use Rattle.mugi_tables.specs.Tables.{mixingList};
+ghost use Rattle.mugi.specs.Cipher.{block, left as leftOf, right as rightOf, rotl64, mixed as mixedOf, f as fOf, lambda1, next, strm};
 ghost use Rattle.mugi.specs.Steps.{stirred, first as firstOf, second as secondOf, moved as movedOf, fourOf};
 
 // a0..a2 and b0..b15.
@@ -21,20 +17,6 @@ pub struct Mugi {
 pub struct Four {
     pub z: [u64; 4],
     pub after: Mugi,
-}
-
-// x <<< 7.
-fn rotl7(x: u64) -> u64
-    ensures { λ r. ⌜ r ≡ rotl64 7 x ⌝ }
-{
-    (x << 7) + (x >> 57)
-}
-
-// x >>> 7.
-fn rotr7(x: u64) -> u64
-    ensures { λ r. ⌜ r ≡ rotr64 7 x ⌝ }
-{
-    (x << 57) + (x >> 7)
 }
 
 // x <<< 17.
@@ -79,16 +61,6 @@ pub fn join(l: u32, r: u32) -> u64
     (l as u64) * 4294967296 + (r as u64)
 }
 
-// The block whose first byte, the most significant, is s[at].
-fn block_at(s: &[u8], at: usize) -> u64
-    requires { ⌜ at + 8 ≤ length (now s) ⌝ }
-    ensures { λ r. ⌜ r ≡ blockAt (now (s .entry)) at ⌝ }
-{
-    let l = words::word_at(s, at);
-    let r = words::word_at(s, at + 4);
-    join(l, r)
-}
-
 // M of what S_R makes of the bytes of w, its halves exchanged: a byte in another place gives what it gives in the highest, rotated.
 fn mixed(w: u32, t: &[u32; 256]) -> u32
     requires { ⌜ now t ≡ mixingList ⌝ }
@@ -109,7 +81,7 @@ fn shuffle(l: u32, r: u32) -> u64
 }
 
 // F, of X xor T.
-fn f(x: u64, t: &[u32; 256]) -> u64
+pub fn f(x: u64, t: &[u32; 256]) -> u64
     requires { ⌜ now t ≡ mixingList ⌝ }
     ensures { λ y. ⌜ y ≡ fOf x ⌝ }
 {
@@ -119,7 +91,7 @@ fn f(x: u64, t: &[u32; 256]) -> u64
 }
 
 // a after rho1, where F gives x and y.
-fn stir(a: [u64; 3], x: u64, y: u64) -> [u64; 3]
+pub fn stir(a: [u64; 3], x: u64, y: u64) -> [u64; 3]
     ensures { λ r. ⌜ r ≡ stirred a x y ⌝ }
 {
     [
@@ -154,78 +126,7 @@ fn lambda(b: [u64; 16], x: u64) -> [u64; 16]
     ]
 }
 
-// Three blocks of a key or an IV.
-fn spread(k: &[u8]) -> [u64; 3]
-    requires { ⌜ length (now k) ≡ 16 ⌝ }
-    ensures { λ r. ⌜ r ≡ spreadOf (now (k .entry)) ⌝ }
-{
-    let k0 = block_at(k, 0);
-    let k1 = block_at(k, 8);
-    [k0, k1, rotl7(k0) ^ rotr7(k1) ^ 0x6a09e667f3bcc908]
-}
-
-// The blocks of an IV added to a.
-fn add(a: [u64; 3], v: [u64; 3]) -> [u64; 3]
-    ensures { λ r. ⌜ r ≡ added a v ⌝ }
-{
-    [a[0] ^ v[0], a[1] ^ v[1], a[2] ^ v[2]]
-}
-
-// A turn of rho1, without b.
-fn turn(a: [u64; 3], t: &[u32; 256]) -> [u64; 3]
-    requires { ⌜ now t ≡ mixingList ⌝ }
-    ensures { λ r. ⌜ r ≡ turned a ⌝ }
-{
-    let x = f(a[1], t);
-    stir(a, x, x)
-}
-
-// Sixteen turns.
-fn turns(a: [u64; 3], t: &[u32; 256]) -> [u64; 3]
-    requires { ⌜ now t ≡ mixingList ⌝ }
-    ensures { λ r. ⌜ r ≡ iter 16 turned a ⌝ }
-{
-    let mut x = a;
-    let mut i: usize = 0;
-    while i < 16 {
-        let y = turn(x, t);
-        x = y;
-        i += 1;
-    }
-    x
-}
-
 impl Mugi {
-    // The state of a key: sixteen turns, and a0 of each in b.
-    fn keyed(key: &[u8], t: &[u32; 256]) -> Mugi
-        requires { ⌜ length (now key) ≡ 16 ⌝ }
-        requires { ⌜ now t ≡ mixingList ⌝ }
-        ensures { λ r. ⌜ r ≡ keyedOf (now (key .entry)) ⌝ }
-    {
-        let mut a = spread(key);
-        let mut b = [0u64; 16];
-        let mut i: usize = 0;
-        while i < 16 {
-            a = turn(a, t);
-            b[15 - i] = a[0];
-            i += 1;
-        }
-        Mugi { a, b }
-    }
-
-    // The state with an IV: it is added to a, and sixteen turns follow.
-    fn with_iv(self, iv: &[u8], t: &[u32; 256]) -> Mugi
-        requires { ⌜ length (now iv) ≡ 16 ⌝ }
-        requires { ⌜ now t ≡ mixingList ⌝ }
-        ensures { λ r. ⌜ r ≡ withIv self (now (iv .entry)) ⌝ }
-    {
-        let a = self.a;
-        let b = self.b;
-        let v = spread(iv);
-        let mixed_a = turns(add(a, v), t);
-        Mugi { a: mixed_a, b }
-    }
-
     // What F gives for a1.
     fn first(self, t: &[u32; 256]) -> u64
         requires { ⌜ now t ≡ mixingList ⌝ }
@@ -298,21 +199,5 @@ impl Mugi {
         let s4 = s3.moved(x3, y3);
         let z = [self.output(), s1.output(), s2.output(), s3.output()];
         Four { z, after: s4 }
-    }
-
-    // S(0) of key and IV.
-    pub fn init(key: &[u8], iv: &[u8], t: &[u32; 256]) -> Mugi
-        requires { ⌜ length (now key) ≡ 16 ⌝ }
-        requires { ⌜ length (now iv) ≡ 16 ⌝ }
-        requires { ⌜ now t ≡ mixingList ⌝ }
-        ensures { λ r. ⌜ r ≡ initOf (now (key .entry)) (now (iv .entry)) ⌝ }
-    {
-        let mut s = Mugi::keyed(key, t).with_iv(iv, t);
-        let mut i: usize = 0;
-        while i < 16 {
-            s = s.step(t);
-            i += 1;
-        }
-        s
     }
 }

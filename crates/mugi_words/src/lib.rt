@@ -119,8 +119,8 @@ pub fn open(key: &[u8], iv: &[u8]) -> [u32; STATE]
     requires { ⌜ length (now iv) ≡ 16 ⌝ }
     ensures { λ r. ⌜ r ≡ mugi .init (now (key .entry)) (now (iv .entry)) ⌝ }
 {
-    let t = mugi::tables::mixing();
-    words(Mugi::init(key, iv, &t))
+    let t = mugi_tables::mixing();
+    words(mugi_start::init(key, iv, &t))
 }
 
 // The text goes to the start of out, XORed with the keystream from byte skip of the unit of the words' state on; w then holds the state of the unit in which
@@ -130,6 +130,6 @@ pub fn xor_text(w: &mut [u32], skip: usize, text: &[u8], out: &mut [u8])
     requires { ⌜ (skip < 8) × (length (now text) ≤ length (now out)) ⌝ }
     ensures { λ _. ⌜ (now (w .exit) ≡ stateAt (mugi .gen) (now (w .entry)) 0 ((skip + length (now (text .entry))) / 8)) × (now (out .exit) ≡ xorFrom (byteAt (mugi .gen) (now (w .entry)) 0) skip (now (text .entry)) ++ drop (length (now (text .entry))) (now (out .entry))) ⌝ }
 {
-    let after = crypt_mugi::crypt(load(w), skip, text, out);
+    let after = mugi_text::crypt(load(w), skip, text, out);
     store(after, w);
 }

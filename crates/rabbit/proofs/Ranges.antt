@@ -13,7 +13,7 @@ use Rattle.words.specs.Strings.{bytesUp}
 use Rattle.words.specs.Lists.{All, none, more, Byte, Word}
 use Rattle.words.proofs.Table.{all-under}
 use Rattle.words.proofs.Ranges.{all-at, at-byte, at-word, all-tab, all-append, iter-keeps, xor-word, add-word, bytesUp-bytes}
-use Rattle.rabbit.specs.Tables.{aList}
+use Rattle.rabbit_tables.specs.Tables.{aList}
 use Rattle.rabbit.specs.Cipher.{choose, at8, carryAt, counterAt, counted, gs, mixedAt, mixed, next, strmAt, halfAt, parts8, parts4, xAt, cAt, arranged, loaded, master, ivWords, modified, withIv, started, init, unit, u}
 use Rattle.rabbit.specs.Range.{InRange}
 use Rattle.rabbit.specs.declared.Rabbit.{Rabbit}

@@ -7,7 +7,7 @@ use lib.ListN.{getD}
 use Rattle.words.specs.Word.{_⊕_, _+₃₂_, _∥_, rotl, high, low}
 use Rattle.words.specs.Strings.{bytesUp}
 use Rattle.words.specs.Lists.{tab, iter}
-use Rattle.rabbit.specs.Tables.{aList}
+use Rattle.rabbit_tables.specs.Tables.{aList}
 use Rattle.rabbit.specs.declared.Rabbit.{Rabbit}
 use Rattle.rabbit.specs.declared.Counted.{Counted}
 

@@ -72,7 +72,7 @@ pub fn open(key: &[u8], iv: &[u8]) -> [u32; STATE]
     requires { ⌜ length (now iv) ≡ 8 ⌝ }
     ensures { λ r. ⌜ r ≡ rabbit .init (now (key .entry)) (now (iv .entry)) ⌝ }
 {
-    words(Rabbit::init(key, iv))
+    words(rabbit_start::init(key, iv))
 }
 
 // The text goes to the start of out, XORed with the keystream from byte skip of the unit of the words' state on; w then holds the state of the unit in which
@@ -82,6 +82,6 @@ pub fn xor_text(w: &mut [u32], skip: usize, text: &[u8], out: &mut [u8])
     requires { ⌜ (skip < 16) × (length (now text) ≤ length (now out)) ⌝ }
     ensures { λ _. ⌜ (now (w .exit) ≡ stateAt (rabbit .gen) (now (w .entry)) 0 ((skip + length (now (text .entry))) / 16)) × (now (out .exit) ≡ xorFrom (byteAt (rabbit .gen) (now (w .entry)) 0) skip (now (text .entry)) ++ drop (length (now (text .entry))) (now (out .entry))) ⌝ }
 {
-    let after = crypt_rabbit::crypt(load(w), skip, text, out);
+    let after = rabbit_text::crypt(load(w), skip, text, out);
     store(after, w);
 }

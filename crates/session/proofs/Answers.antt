@@ -14,8 +14,9 @@ use Rattle.card_outcome.specs.Leaves.{callOf, outOf, Called}
 use Rattle.card.specs.declared.Answer.{Answer}
 use Rattle.card.specs.Ran.{seenOf, Promised}
 use Rattle.card.proofs.Calls.{called}
+use Rattle.session_table.specs.Table.{Behind, rowOf}
 use Rattle.session.specs.declared.Progress.{Progress}
-use Rattle.session.specs.Session.{made, Behind, rowOf}
+use Rattle.session.specs.Session.{made}
 use Rattle.session.specs.Progress.{here, next, Turned}
 use Rattle.session.proofs.Bounds.{bounded}
 

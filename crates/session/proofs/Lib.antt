@@ -1,4 +1,4 @@
-mod Text
+mod Read
 mod Bounds
 mod Answers
 mod Sofar

@@ -15,15 +15,17 @@ use borrow.Author.Tests.{eq-eqb, ne-eqb, eqb-true}
 use Rattle.words.specs.Tests.{pick}
 use Rattle.machine.specs.Machine.{Call, Seen, cardStep, freshCard}
 use Rattle.machine.specs.Logs.{Made}
-use Rattle.card_layout.specs.Words.{cardIn, lineIn}
+use Rattle.card_line.specs.Words.{lineIn}
+use Rattle.card_layout.specs.Words.{cardIn}
 use Rattle.card_outcome.specs.Leaves.{callOf}
 use Rattle.card.specs.Ran.{seenOf}
 use Rattle.decimal.specs.Decimal.{decimal}
 use Rattle.decimal.proofs.Digits.{digits-few}
+use Rattle.session_table.specs.Table.{Behind, figure, space, newline, columns, rowOf, endOf, acceptedOf}
 use Rattle.session.specs.declared.Progress.{Progress}
-use Rattle.session.specs.Session.{made, rest, calls, readLength, writtenBy, accepted, lastCode, Behind, figure, space, newline, columns, rowOf, rowsFrom, endOf, tableOf, session}
-use Rattle.session.specs.Progress.{startOf, here, next, acceptedOf, Ready, Turned, Sizes, Finished, Leaves}
-use Rattle.session.proofs.Text.{behind-front, behind-rest, behind-length}
+use Rattle.session.specs.Session.{made, rest, calls, readLength, writtenBy, accepted, lastCode, rowsFrom, tableOf, session}
+use Rattle.session.specs.Progress.{startOf, here, next, Ready, Turned, Sizes, Finished, Leaves}
+use Rattle.session_table.proofs.Text.{behind-front, behind-rest, behind-length}
 use Rattle.session.proofs.Bounds.{bounded, code-few}
 
 -- ---- one call of those that are left

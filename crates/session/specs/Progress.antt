@@ -3,17 +3,16 @@
 use mathlib.Core.Path.{_≡_}
 use mathlib.Core.List.{List, _++_}
 use Prim.Native.Nat.{ℕ, _+_, _-_, _≤_, _<_}
-use lib.Dec.{eqb}
 use lib.ListN.{length, take, drop}
 use Rattle.words.specs.Lists.{All, Byte}
-use Rattle.words.specs.Tests.{pick}
 use Rattle.machine.specs.Machine.{Call, freshCard}
 use Rattle.machine.specs.Logs.{Made}
 use Rattle.card_outcome.specs.Leaves.{callOf}
 use Rattle.card.specs.Ran.{seenOf, fresh}
+use Rattle.session_table.specs.Table.{Behind, columns, rowOf, acceptedOf}
 use Rattle.session.specs.declared.Progress.{Progress}
 use Rattle.session.specs.declared.Ended.{Ended}
-use Rattle.session.specs.Session.{made, calls, readLength, writtenBy, accepted, lastCode, Behind, columns, rowOf, rowsFrom, tableOf, session}
+use Rattle.session.specs.Session.{made, calls, readLength, writtenBy, accepted, lastCode, rowsFrom, tableOf, session}
 
 -- a run at its start, whose table has so many bytes
 abbrev pub startOf : ℕ → Progress
@@ -27,10 +26,6 @@ here p commands tray text out =
 -- that call
 unfoldable pub next : Progress → (commands tray text out : List ℕ) → Made
 next p commands tray text out = made (seenOf (p .card)) (here p commands tray text out)
-
--- accepted calls: all but a last one that was refused
-unfoldable pub acceptedOf : (calls code : ℕ) → ℕ
-acceptedOf calls code = pick (eqb code 0) calls (calls - 1)
 
 -- the buffers hold what was used and written, and a line of the table has room
 pub record Ready (p : Progress) (commands text out table : List ℕ) : Type 0 where

@@ -1,15 +1,14 @@
 -- The program (document 01, `cardrun`): commands are run until the end or the first refusal, each call with what is left of the commands, the data and out, and the whole tray; the written
 -- bytes joined, and the table that is printed.
 -- Assumes nothing.
-use mathlib.Core.Path.{_≡_}
 use mathlib.Core.List.{List, [], _∷_, _++_}
-use Prim.Native.Nat.{ℕ, zero, suc, _+_, _≤_}
+use Prim.Native.Nat.{ℕ, zero, suc, _+_}
 use lib.Dec.{eqb}
 use lib.ListN.{length, take, drop}
 use Rattle.words.specs.Tests.{pick}
 use Rattle.machine.specs.Machine.{Call, Seen, cardStep, freshCard}
 use Rattle.machine.specs.Logs.{Made, madeOf}
-use Rattle.decimal.specs.Decimal.{decimal}
+use Rattle.session_table.specs.Table.{columns, rowOf, endOf}
 
 -- ---- the calls
 
@@ -63,48 +62,12 @@ unfoldable pub lastCode : ℕ → List Made → ℕ
 lastCode k [] = k
 lastCode k (x ∷ xs) = lastCode (x .code) xs
 
--- ---- text in a buffer
-
--- out is before with p behind its first at bytes, up to r; what is behind p stays
-pub record Behind (p : List ℕ) (at : ℕ) (before out : List ℕ) (r : ℕ) : Type 0 where
-  pub end : r ≡ at + length p
-  pub fits : r ≤ length before
-  pub is : out ≡ (take at before ++ p) ++ drop r before
-
 -- ---- the table
-
--- a figure and the byte behind it
-abbrev pub figure : ℕ → ℕ → List ℕ
-figure n end = decimal n ++ (end ∷ [])
-
-abbrev pub space : ℕ
-space = 32
-
-abbrev pub newline : ℕ
-newline = 10
-
--- "call code cmd data out" and a newline
-abbrev pub columns : List ℕ
-columns =
-    99 ∷ 97 ∷ 108 ∷ 108 ∷ 32 ∷ 99 ∷ 111 ∷ 100 ∷ 101 ∷ 32 ∷ 99 ∷ 109 ∷ 100 ∷ 32 ∷ 100 ∷ 97 ∷ 116 ∷ 97 ∷ 32 ∷ 111 ∷ 117 ∷ 116 ∷ 10 ∷ []
-
--- "end "
-abbrev pub last : List ℕ
-last = 101 ∷ 110 ∷ 100 ∷ 32 ∷ []
-
--- call number, code, bytes used of command and data, bytes written
-unfoldable pub rowOf : (i code command text written : ℕ) → List ℕ
-rowOf i code command text written =
-    (((figure i space ++ figure code space) ++ figure command space) ++ figure text space) ++ figure written newline
 
 -- a line for each call, the first numbered i
 unfoldable pub rowsFrom : ℕ → List Made → List ℕ
 rowsFrom i [] = []
 rowsFrom i (x ∷ xs) = rowOf i (x .code) (x .used-command) (x .used-data) (x .written) ++ rowsFrom (suc i) xs
-
--- the last line: accepted calls, last code
-unfoldable pub endOf : (count code : ℕ) → List ℕ
-endOf count code = (last ++ figure count space) ++ figure code newline
 
 -- the table: column names, a line for each call, the last line
 unfoldable pub tableOf : List Made → List ℕ

@@ -1,12 +1,13 @@
 // A run of the program: commands are run until the end or the first refusal (document 01, `cardrun`), the written bytes joined in one buffer and the table of calls
 // written to another.
 ghost use mathlib.Core.Path.{_≡_};
-ghost use mathlib.Core.List.{_++_};
-ghost use Prim.Native.Nat.{_+_, _≤_, _<_};
-ghost use lib.ListN.{length, take, drop};
-ghost use Rattle.session.specs.Session.{Behind, figure, rowOf, endOf, readLength};
-ghost use Rattle.session.specs.Progress.{startOf, acceptedOf, Ready, Turned, Sizes, Finished, Promised};
+ghost use lib.ListN.{take};
+ghost use Rattle.session.specs.Session.{readLength};
+ghost use Rattle.session.specs.Progress.{startOf, Ready, Turned, Sizes, Finished, Promised};
 use card::Card;
+use session_table::accepted_of;
+use session_table::put_end;
+use session_table::put_row;
 
 // Only so many bytes of each file are read.
 pub const READ: usize = 16384;
@@ -31,45 +32,6 @@ pub struct Progress {
 pub struct Ended {
     pub written: usize,
     pub printed: usize,
-}
-
-// A figure and the byte end go behind the first at bytes of out. Returns where they end.
-fn put_figure(n: u64, end: u8, at: usize, out: &mut [u8]) -> usize
-    requires { ⌜ at + 21 ≤ length (now out) ⌝ }
-    ensures { λ r. ⌜ Behind (figure n end) at (now (out .entry)) (now (out .exit)) r ⌝ }
-{
-    at + decimal::put(n, end, &mut out[at..])
-}
-
-// A line of the table goes behind the first at bytes of out. Returns where it ends.
-fn put_row(
-    call: usize,
-    code: u8,
-    command: usize,
-    text: usize,
-    written: usize,
-    at: usize,
-    out: &mut [u8],
-) -> usize
-    requires { ⌜ at + 105 ≤ length (now out) ⌝ }
-    ensures { λ r. ⌜ Behind (rowOf call code command text written) at (now (out .entry)) (now (out .exit)) r ⌝ }
-{
-    let a = put_figure(call as u64, 32, at, out);
-    let b = put_figure(code as u64, 32, a, out);
-    let c = put_figure(command as u64, 32, b, out);
-    let d = put_figure(text as u64, 32, c, out);
-    put_figure(written as u64, 10, d, out)
-}
-
-// The last line of the table goes behind the first at bytes of out. Returns where it ends.
-fn put_end(accepted: usize, code: u8, at: usize, out: &mut [u8]) -> usize
-    requires { ⌜ at + 46 ≤ length (now out) ⌝ }
-    ensures { λ r. ⌜ Behind (endOf accepted code) at (now (out .entry)) (now (out .exit)) r ⌝ }
-{
-    buffer::put(b"end ", &mut out[at..]);
-    let a = at + 4;
-    let b = put_figure(accepted as u64, 32, a, out);
-    put_figure(code as u64, 10, b, out)
 }
 
 // One call more, on what is left of the commands, of the data and of out; its line goes to the table.
@@ -126,19 +88,6 @@ fn start(table: usize) -> Progress
         calls: 0,
         code: 0,
     }
-}
-
-// Accepted calls: all but a last one that was refused.
-fn accepted_of(calls: usize, code: u8) -> usize
-    ensures { λ r. ⌜ r ≡ acceptedOf calls code ⌝ }
-{
-    if code == 0 {
-        return calls;
-    }
-    if calls == 0 {
-        return 0;
-    }
-    calls - 1
 }
 
 // Calls until the commands are used up or one is refused, from a fresh card.

@@ -12,7 +12,8 @@ use Rattle.words.specs.Lists.{All, none, more, Byte, Word}
 use Rattle.words.proofs.Ranges.{at-word, all-tab, all-shifted, length-shifted, iter-keeps, xor-word, add-word, fourAt-words, bytesOf-bytes}
 use Rattle.field.proofs.Elements.{times-word}
 use Rattle.field.proofs.Columns.{fnT-word}
-use Rattle.snow2.specs.Cipher.{field, alphaInv, cell, f, fed, clocked, next, nextInit, strm, cells, nots, loaded128, loaded256, started, init128, init256, unit, u}
+use Rattle.snow2_tables.specs.Tables.{field, alphaInv}
+use Rattle.snow2.specs.Cipher.{cell, f, fed, clocked, next, nextInit, strm, cells, nots, loaded128, loaded256, started, init128, init256, unit, u}
 use Rattle.snow2.specs.Range.{InRange}
 use Rattle.snow2.specs.declared.Snow2.{Snow2}
 use Rattle.field.specs.Gf32.{alpha}

@@ -7,18 +7,10 @@ use lib.ListN.{getD}
 use Rattle.words.specs.Word.{_⊕_, _+₃₂_, not32}
 use Rattle.words.specs.Strings.{fourAt, bytesOf}
 use Rattle.words.specs.Lists.{tab, shifted, iter}
-use Rattle.field.specs.Gf32.{Field, times, alpha}
+use Rattle.field.specs.Gf32.{times, alpha}
 use Rattle.field.specs.Aes.{fnT}
+use Rattle.snow2_tables.specs.Tables.{field, alphaInv}
 use Rattle.snow2.specs.declared.Snow2.{Snow2}
-
--- the field of α: GF(2^8) over x^8 + x^7 + x^5 + x^3 + 1, and y^4 = x^23 y^3 + x^245 y^2 + x^48 y + x^239. No document prints them; the printed tables
--- are their products.
-abbrev pub field : Field
-field = record { modulus = 0x1a9; y4 = 0xe19fcf13 }
-
--- α^-1, whose product with α is 1
-abbrev pub alphaInv : ℕ
-alphaInv = 0x180f40cd
 
 -- si
 abbrev pub cell : Snow2 → ℕ → ℕ

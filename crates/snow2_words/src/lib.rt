@@ -49,10 +49,10 @@ pub fn open128(key: &[u8], iv: &[u8]) -> [u32; STATE]
     requires { ⌜ length (now iv) ≡ 16 ⌝ }
     ensures { λ r. ⌜ r ≡ snow128 .init (now (key .entry)) (now (iv .entry)) ⌝ }
 {
-    let a = snow2::tables::alpha();
-    let ai = snow2::tables::inverse();
+    let a = snow2_tables::alpha();
+    let ai = snow2_tables::inverse();
     let t = field::tables::column();
-    words(Snow2::init128(key, iv, &a, &ai, &t))
+    words(snow2_start::init128(key, iv, &a, &ai, &t))
 }
 
 // S(0) of a key of 32 bytes and an IV.
@@ -61,10 +61,10 @@ pub fn open256(key: &[u8], iv: &[u8]) -> [u32; STATE]
     requires { ⌜ length (now iv) ≡ 16 ⌝ }
     ensures { λ r. ⌜ r ≡ snow256 .init (now (key .entry)) (now (iv .entry)) ⌝ }
 {
-    let a = snow2::tables::alpha();
-    let ai = snow2::tables::inverse();
+    let a = snow2_tables::alpha();
+    let ai = snow2_tables::inverse();
     let t = field::tables::column();
-    words(Snow2::init256(key, iv, &a, &ai, &t))
+    words(snow2_start::init256(key, iv, &a, &ai, &t))
 }
 
 // The text goes to the start of out, XORed with the keystream from byte skip of the unit of the words' state on; w then holds the state of the unit in which
@@ -74,6 +74,6 @@ pub fn xor_text(w: &mut [u32], skip: usize, text: &[u8], out: &mut [u8])
     requires { ⌜ (skip < 4) × (length (now text) ≤ length (now out)) ⌝ }
     ensures { λ _. ⌜ (now (w .exit) ≡ stateAt (snow128 .gen) (now (w .entry)) 0 ((skip + length (now (text .entry))) / 4)) × (now (out .exit) ≡ xorFrom (byteAt (snow128 .gen) (now (w .entry)) 0) skip (now (text .entry)) ++ drop (length (now (text .entry))) (now (out .entry))) ⌝ }
 {
-    let after = crypt_snow2::crypt(load(w), skip, text, out);
+    let after = snow2_text::crypt(load(w), skip, text, out);
     store(after, w);
 }

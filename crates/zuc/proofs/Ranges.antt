@@ -14,7 +14,7 @@ use Rattle.words.specs.Lists.{All, Byte, Word}
 use Rattle.words.specs.Tests.{both}
 use Rattle.words.proofs.Table.{both-left, both-right, all-pass, all-under}
 use Rattle.words.proofs.Ranges.{at-byte, all-in, all-tab, all-shifted, length-shifted, iter-keeps, join-word, bytesOf-bytes}
-use Rattle.zuc.specs.Tables.{sub1, sub2, d}
+use Rattle.zuc_tables.specs.Tables.{sub1, sub2, d}
 use Rattle.zuc.specs.Cipher.{ss, nextR1, nextR2, v, weighed, mended, fed, fedInit, clocked, next, nextInit, strm, loaded, loadedCell, init, unit, u}
 use Rattle.zuc.specs.Range.{Cell, InRange}
 use Rattle.zuc.specs.declared.Zuc.{Zuc}

@@ -6,7 +6,7 @@ use lib.ListN.{getD}
 use Rattle.words.specs.Word.{_⊕_, _+₃₂_, _∥_, rotl, high, low, word, b0, b1, b2, b3}
 use Rattle.words.specs.Strings.{bytesOf}
 use Rattle.words.specs.Lists.{tab, shifted, iter}
-use Rattle.zuc.specs.Tables.{sub1, sub2, d}
+use Rattle.zuc_tables.specs.Tables.{sub1, sub2, d}
 use Rattle.zuc.specs.declared.Zuc.{Zuc}
 
 -- Ai

@@ -1,13 +1,10 @@
-// ZUC (ISO/IEC 18033-4:2011/Amd 1:2020, 8.6): a state by value, its steps in both modes, its output and its start from key and IV.
-// A caller holds the lengths of key and IV, sixteen bytes each, and lends the tables that `tables` makes.
-pub mod tables;
-
+// ZUC (ISO/IEC 18033-4:2011/Amd 1:2020, 8.6): a state by value, its steps in both modes and its output.
+// A caller lends the tables that `zuc_tables` makes.
 ghost use mathlib.Core.Path.{_≡_};
 ghost use Prim.Native.Nat.{_+_, _-_, _/_, _%_, _^_, _<_, _≤_};
-ghost use lib.ListN.{length};
 ghost use Rattle.words.specs.Word.{_∥_, word, low, high};
-ghost use Rattle.zuc.specs.Tables.{Lent};
-ghost use Rattle.zuc.specs.Cipher.{l1, l2, ss, cellHigh, w as wordW, weighed, mended, nextR1, nextR2, clocked, next, nextInit, strm, cellOf, loaded, init as initOf};
+ghost use Rattle.zuc_tables.specs.Tables.{Lent};
+ghost use Rattle.zuc.specs.Cipher.{l1, l2, ss, cellHigh, w as wordW, weighed, mended, nextR1, nextR2, clocked, next, nextInit, strm};
 
 // A0..A15, R1 and R2.
 pub struct Zuc {
@@ -139,30 +136,7 @@ fn feedback_init(sum: u64, w: u32) -> u32
     feedback(with_w)
 }
 
-// A cell of 8.6.2 a).
-fn cell(k: u8, x: u16, iv: u8) -> u32
-    ensures { λ r. ⌜ r ≡ cellOf k x iv ⌝ }
-{
-    (k as u32) * 8388608 + (x as u32) * 256 + (iv as u32)
-}
-
 impl Zuc {
-    // The state of key and IV before any step.
-    pub fn load(key: &[u8], iv: &[u8]) -> Zuc
-        requires { ⌜ length (now key) ≡ 16 ⌝ }
-        requires { ⌜ length (now iv) ≡ 16 ⌝ }
-        ensures { λ r. ⌜ r ≡ loaded (now (key .entry)) (now (iv .entry)) ⌝ }
-    {
-        let d = tables::d();
-        let mut a = [0u32; 16];
-        let mut i: usize = 0;
-        while i < 16 {
-            a[i] = cell(key[i], d[i], iv[i]);
-            i += 1;
-        }
-        Zuc { a, r1: 0, r2: 0 }
-    }
-
     // W of 8.6.3 b).
     fn word(self) -> u32
         ensures { λ r. ⌜ r ≡ wordW self ⌝ }
@@ -214,21 +188,5 @@ impl Zuc {
     {
         let a = self.a;
         self.word() ^ low_high(a[2], a[0])
-    }
-
-    // S(0) of key and IV.
-    pub fn init(key: &[u8], iv: &[u8], t1: &[u8; 256], t2: &[u8; 256]) -> Zuc
-        requires { ⌜ length (now key) ≡ 16 ⌝ }
-        requires { ⌜ length (now iv) ≡ 16 ⌝ }
-        requires { ⌜ Lent (now t1) (now t2) ⌝ }
-        ensures { λ r. ⌜ r ≡ initOf (now (key .entry)) (now (iv .entry)) ⌝ }
-    {
-        let mut s = Zuc::load(key, iv);
-        let mut i: usize = 0;
-        while i < 32 {
-            s = s.step_init(t1, t2);
-            i += 1;
-        }
-        s.step(t1, t2)
     }
 }

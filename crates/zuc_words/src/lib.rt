@@ -49,9 +49,9 @@ pub fn open(key: &[u8], iv: &[u8]) -> [u32; STATE]
     requires { ⌜ length (now iv) ≡ 16 ⌝ }
     ensures { λ r. ⌜ r ≡ zuc .init (now (key .entry)) (now (iv .entry)) ⌝ }
 {
-    let t1 = zuc::tables::sub1();
-    let t2 = zuc::tables::sub2();
-    words(Zuc::init(key, iv, &t1, &t2))
+    let t1 = zuc_tables::sub1();
+    let t2 = zuc_tables::sub2();
+    words(zuc_start::init(key, iv, &t1, &t2))
 }
 
 // The text goes to the start of out, XORed with the keystream from byte skip of the unit of the words' state on; w then holds the state of the unit in which
@@ -61,6 +61,6 @@ pub fn xor_text(w: &mut [u32], skip: usize, text: &[u8], out: &mut [u8])
     requires { ⌜ (skip < 4) × (length (now text) ≤ length (now out)) ⌝ }
     ensures { λ _. ⌜ (now (w .exit) ≡ stateAt (zuc .gen) (now (w .entry)) 0 ((skip + length (now (text .entry))) / 4)) × (now (out .exit) ≡ xorFrom (byteAt (zuc .gen) (now (w .entry)) 0) skip (now (text .entry)) ++ drop (length (now (text .entry))) (now (out .entry))) ⌝ }
 {
-    let after = crypt_zuc::crypt(load(w), skip, text, out);
+    let after = zuc_text::crypt(load(w), skip, text, out);
     store(after, w);
 }

@@ -11,7 +11,8 @@ use lib.ListN.{length, getD, take, drop}
 use Rattle.card_sizes.specs.Sizes.{lineSize, lineCount}
 use Rattle.machine.specs.Machine.{Line, lineOk, allOk, idleLine}
 use Rattle.machine.specs.Logs.{lineOn}
-use Rattle.card_layout.specs.Words.{lineIn, lineWords, wordsAt, cardIn, Held}
+use Rattle.card_line.specs.Words.{lineIn, lineWords}
+use Rattle.card_layout.specs.Words.{wordsAt, cardIn, Held}
 use Rattle.card_layout.proofs.Cards.{part-is, part-length, line-part, held-more}
 use Rattle.card_checks.proofs.Walks.{lines-fail, lines-pass, no-more}
 use borrow.Author.Needs.{needs}

@@ -7,7 +7,7 @@ use native.Mathlib.Omega.{arith}
 use lib.ListN.{take, drop}
 use Rattle.card_sizes.specs.Sizes.{stateWords, headWords}
 use Rattle.machine.specs.Machine.{openOk}
-use Rattle.card_layout.proofs.Lines.{line-held, zero-line, no-line, open-line}
+use Rattle.card_line.proofs.Lines.{line-held, zero-line, no-line, open-line}
 use Rattle.card_checks.proofs.Walks.{no-more}
 use borrow.Author.Needs.{needs}
 use Rattle.card_checks.proofs.line_ok.Statement.{statement}

@@ -11,8 +11,8 @@ use Rattle.ciphers.specs.Table.{isCipher}
 use Rattle.ciphers.proofs.Numbers.{read-none, read-is}
 use Rattle.card_sizes.specs.Sizes.{stateWords, headWords, lineSize}
 use Rattle.machine.specs.Machine.{Line, openOk, based, shown, moved, enciphered}
-use Rattle.card_layout.specs.Words.{lineIn, lineWords}
-use Rattle.card_layout.proofs.Lines.{state-slice, head-back}
+use Rattle.card_line.specs.Words.{lineIn, lineWords}
+use Rattle.card_line.proofs.Lines.{state-slice, head-back}
 use Rattle.card_crypt.specs.Crypted.{Crypted}
 use Rattle.card_crypt.proofs.Crypts.{crypted-line, open-admits, never, unit-up, place-within}
 use borrow.Author.Needs.{needs}

@@ -13,7 +13,8 @@ use Rattle.card_sizes.specs.Sizes.{lineSize}
 use Rattle.command.specs.Decode.{lengthOf}
 use Rattle.machine.specs.Machine.{Line, decided, refuseIf, isOpen, limit, openOk, based, shown, moved, enciphered}
 use Rattle.machine.specs.Logs.{lineOn}
-use Rattle.card_layout.specs.Words.{lineIn, lineWords, cardIn}
+use Rattle.card_line.specs.Words.{lineIn, lineWords}
+use Rattle.card_layout.specs.Words.{cardIn}
 use Rattle.card_layout.proofs.Cards.{part-length, line-part, part-put}
 use Rattle.card_outcome.specs.Leaves.{publicOf}
 use Rattle.card_outcome.proofs.Laws.{shut-is, over-yes, over-no, sound-ok, sound-plain, open-ok-of, given-true, given-false, given-refusal, given-crypt}

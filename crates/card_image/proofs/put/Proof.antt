@@ -10,7 +10,7 @@ use borrow.Rule.Slice.PartMut.{putMid}
 use Rattle.card_sizes.specs.Sizes.{imageLength}
 use Rattle.machine.specs.Fields.{spelt}
 use Rattle.machine.specs.Machine.{imageOf}
-use Rattle.card_layout.specs.Words.{lineIn}
+use Rattle.card_line.specs.Words.{lineIn}
 use Rattle.buffer.proofs.Fronts.{Front, front-length, front-room, front-within}
 use Rattle.card_image.proofs.Fronts.{front-1, front-image}
 use borrow.Author.Needs.{needs}

@@ -4,8 +4,9 @@ use mathlib.Core.Path.{sym, subst}
 use mathlib.Core.List.{List}
 use Prim.Native.Nat.{ℕ}
 use Rattle.field.specs.Gf32.{Products}
-use Rattle.kcipher2.specs.Cipher.{oneOrTwo, field1, field2}
-use Rattle.kcipher2.proofs.Rules.{alpha1-rule, alpha2-rule}
+use Rattle.kcipher2_tables.specs.Tables.{field1, field2}
+use Rattle.kcipher2.specs.Cipher.{oneOrTwo}
+use Rattle.kcipher2_tables.proofs.Rules.{alpha1-rule, alpha2-rule}
 use borrow.Author.Needs.{needs}
 use Rattle.kcipher2.proofs.one_or_two.Statement.{statement}
 use Rattle.kcipher2.proofs.one_or_two.Tie as tie

@@ -4,8 +4,9 @@ use mathlib.Core.Path.{sym, subst}
 use mathlib.Core.List.{List}
 use Prim.Native.Nat.{ℕ}
 use Rattle.field.specs.Gf32.{Products}
-use Rattle.kcipher2.specs.Cipher.{threeOrNone, field3}
-use Rattle.kcipher2.proofs.Rules.{alpha3-rule}
+use Rattle.kcipher2_tables.specs.Tables.{field3}
+use Rattle.kcipher2.specs.Cipher.{threeOrNone}
+use Rattle.kcipher2_tables.proofs.Rules.{alpha3-rule}
 use borrow.Author.Needs.{needs}
 use Rattle.kcipher2.proofs.three_or_none.Statement.{statement}
 use Rattle.kcipher2.proofs.three_or_none.Tie as tie

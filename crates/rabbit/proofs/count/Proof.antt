@@ -8,7 +8,7 @@ use native.Mathlib.Omega.{arith}
 use lib.ListN.{length, getD, set, drop, drop-of-length-le}
 use Rattle.words.specs.Lists.{tab}
 use Rattle.words.proofs.Registers.{fill}
-use Rattle.rabbit.specs.Tables.{aList}
+use Rattle.rabbit_tables.specs.Tables.{aList}
 use Rattle.rabbit.specs.Cipher.{counted, counterAt, carryAt}
 use Rattle.rabbit.specs.declared.Counted.{Counted}
 use borrow.Author.Needs.{needs}

@@ -1,6 +1,6 @@
 -- `session::first` meets its contract: a shorter file is its own first bytes.
 -- Assumes nothing.
-use Rattle.session.proofs.Text.{first-length, first-is}
+use Rattle.session.proofs.Read.{first-length, first-is}
 use borrow.Author.Needs.{needs}
 use Rattle.session.proofs.first.Statement.{statement}
 use Rattle.session.proofs.first.Tie as tie

@@ -3,6 +3,7 @@
 use Rattle.words.specs.Lists.{Byte}
 use Rattle.words.proofs.Ranges.{all-known}
 use Rattle.session.proofs.Sofar.{sizes-of, leaves}
+use native.Mathlib.Omega.{arith}
 use borrow.Author.Needs.{needs}
 use Rattle.session.proofs.run.Statement.{statement}
 use Rattle.session.proofs.run.Tie as tie
@@ -28,5 +29,5 @@ returns c =
 
 pub run-spec : {M : Type 1} → statement M
 run-spec =
-    tie.close (tie.spec (λ c κs. search needs) (λ c κs. search needs) (λ c κs. search needs) (search needs) (λ c κs. search needs) run-calls-requires (λ c κs. search needs) (λ c κs. search needs)
+    tie.close (tie.spec (λ c κs. search needs) (λ c κs. search needs) (λ c κs. search needs) (λ c. omega arith) (λ c κs. search needs) run-calls-requires (λ c κs. search needs) (λ c κs. search needs)
     returns)

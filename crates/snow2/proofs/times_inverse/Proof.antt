@@ -1,6 +1,6 @@
 -- `snow2::times_inverse` meets its contract: w moved down, with what the table has for its lowest byte, is the product.
 -- Assumes nothing.
-use Rattle.snow2.proofs.Rules.{inverse-times}
+use Rattle.snow2_tables.proofs.Rules.{inverse-times}
 use borrow.Author.Needs.{needs}
 use Rattle.snow2.proofs.times_inverse.Statement.{statement}
 use Rattle.snow2.proofs.times_inverse.Tie as tie

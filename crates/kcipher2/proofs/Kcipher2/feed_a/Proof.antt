@@ -4,8 +4,9 @@ use mathlib.Core.Path.{sym, subst}
 use mathlib.Core.List.{List}
 use Prim.Native.Nat.{ℕ}
 use Rattle.field.specs.Gf32.{Products}
-use Rattle.kcipher2.specs.Cipher.{fedA, field0}
-use Rattle.kcipher2.proofs.Rules.{alpha0-rule}
+use Rattle.kcipher2_tables.specs.Tables.{field0}
+use Rattle.kcipher2.specs.Cipher.{fedA}
+use Rattle.kcipher2_tables.proofs.Rules.{alpha0-rule}
 use borrow.Author.Needs.{needs}
 use Rattle.kcipher2.proofs.Kcipher2.feed_a.Statement.{statement}
 use Rattle.kcipher2.proofs.Kcipher2.feed_a.Tie as tie

@@ -4,8 +4,9 @@ use mathlib.Core.Path.{sym, subst}
 use mathlib.Core.List.{List}
 use Prim.Native.Nat.{ℕ}
 use Rattle.field.specs.Gf32.{Products}
-use Rattle.snow2.specs.Cipher.{fed, field}
-use Rattle.snow2.proofs.Rules.{alpha-rule}
+use Rattle.snow2_tables.specs.Tables.{field}
+use Rattle.snow2.specs.Cipher.{fed}
+use Rattle.snow2_tables.proofs.Rules.{alpha-rule}
 use borrow.Author.Needs.{needs}
 use Rattle.snow2.proofs.Snow2.feed.Statement.{statement}
 use Rattle.snow2.proofs.Snow2.feed.Tie as tie

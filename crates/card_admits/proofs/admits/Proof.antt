@@ -1,0 +1,20 @@
+-- `card_admits::admits` meets its contract: each arm asks what its cipher asks.
+-- Assumes nothing.
+use mathlib.Core.Path.{refl}
+use Rattle.ciphers.specs.Table.{cipherAt, zuc, rabbit, snow128, snow256, kcipher2, mugi}
+use Rattle.card_admits.proofs.Between.{by-cipher}
+use borrow.Author.Needs.{needs}
+use Rattle.card_admits.proofs.admits.Statement.{statement}
+use Rattle.card_admits.proofs.admits.Tie as tie
+
+pub admits-spec : {M : Type 1} → statement M
+unfolding cipherAt zuc rabbit snow128 snow256 kcipher2 mugi
+admits-spec =
+    tie.close (tie.spec (λ c. search needs) (λ c κs. search needs) (λ c. search needs) (λ c κs. search needs) (λ c. search needs) (λ c κs. search needs) (λ c. search needs)
+    (λ c κs. search needs) (λ c. search needs) (λ c κs. search needs) (λ c. search needs)
+    (λ c. by-cipher (c .before .before .before .before .args .w .now) (c .before .enum-told .given .1) (c .zuc-admits .ensures))
+    (λ c. by-cipher (c .before .before .before .before .args .w .now) (c .before .enum-told2 .given .1) (c .rabbit-admits .ensures))
+    (λ c. by-cipher (c .before .before .before .before .args .w .now) (c .before .enum-told3 .given .1) (c .spare .ensures))
+    (λ c. by-cipher (c .before .before .before .before .args .w .now) (c .before .enum-told4 .given .1) (c .spare2 .ensures))
+    (λ c. by-cipher (c .before .before .before .before .args .w .now) (c .before .enum-told5 .given .1) (c .spare3 .ensures))
+    (λ c. by-cipher (c .before .before .before .args .w .now) (c .enum-told6 .given .1) refl))

@@ -1,9 +1,0 @@
--- `crypt_zuc::unit` meets its contract: the unit is written, and the state steps.
--- Assumes nothing.
-use Rattle.crypt_zuc.proofs.Units.{did-unit}
-use borrow.Author.Needs.{needs}
-use Rattle.crypt_zuc.proofs.unit.Statement.{statement}
-use Rattle.crypt_zuc.proofs.unit.Tie as tie
-
-pub unit-spec : {M : Type 1} → statement M
-unit-spec = tie.close (tie.spec (λ c κs. search needs) (λ c κs. search needs) (search needs) (λ c. let p = c .before .before .before in did-unit (p .before .before .before .before .pre .1 .0) (p .put .ensures) (c .step .ensures)))

@@ -1,0 +1,72 @@
+-- `kcipher2_text::turns` meets its contract. The loop's invariant: at bytes of the text are done, and the next byte is at place in its unit.
+-- Assumes nothing.
+use mathlib.Core.Path.{_≡_, refl, sym, _∙_, subst}
+use Prim.Native.Nat.{ℕ, _+_, _-_, _%_, _^_, _<_, _≤_}
+use lib.ListN.{length}
+use native.Mathlib.Omega.{arith}
+use Rattle.keystream.specs.Stream.{Did}
+use Rattle.keystream.proofs.Parts.{tail-length, did-none, did-lent, did-length}
+use Rattle.kcipher2.specs.Generator.{gen}
+use borrow.Author.Needs.{needs}
+use Rattle.kcipher2_text.proofs.turns.Statement.{statement}
+use Rattle.kcipher2_text.proofs.turns.Tie as tie
+
+abbrev Inv-loop : tie.InvT-loop
+Inv-loop m0 m1 m2 m3 t from text out₀ count ks₀ cur₀ place₀ at₀ out ks cur place at =
+    (at ≤ count) × ((place ≡ (from + at) % 8) × ((length ks ≡ 256) × ((length out ≡ length out₀) × Did gen from cur₀ at text out₀ cur out)))
+
+abbrev μ-loop : tie.MeasureT-loop
+μ-loop m0 m1 m2 m3 t from text out₀ count ks₀ cur₀ place₀ at₀ out ks cur place at = count - at
+
+loop-holds : tie.Need-loop-holds Inv-loop μ-loop
+unfolding gen
+loop-holds c = (omega arith, (omega arith, (refl, (refl, did-none gen (omega arith) (omega arith)))))
+
+turn-requires : tie.Need-turn-requires Inv-loop μ-loop
+turn-requires c κs =
+    let u = c .before .before .before in
+    let l = u .before .before in
+    let i = l .loop .inv in
+    let k = l .before .before .before in
+    let e = u .least .ensures in
+    let p = i .1 .0 in
+    let h = k .pre .1 .1 in
+    let n = i .1 .1 .1 .0 in
+    (k .pre .0, (i .1 .1 .0, (omega (arith, e, p), (omega (arith, e, tail-length (l .loop .at) (k .args .text .now)), omega (arith, e, h, n, tail-length (l .loop .at) (l .loop .out))))))
+
+add-at : tie.Need-add-at Inv-loop μ-loop
+add-at c =
+    let u = c .before .before .before .before .before .before .before in
+    let l = u .before .before in
+    let k = l .before .before .before in
+    let short : length (k .args .text .now) < 2 ^ 64 = k .good .1 .1 .1 .1 .1 .1 .1 .0 .0 in
+    let sum : l .loop .at + u .least .result < 2 ^ 64 = omega (arith, short, l .loop .inv .0, u .least .ensures) in
+    record { fits = sum }
+
+loop-again : tie.Need-loop-again Inv-loop μ-loop
+unfolding gen
+loop-again c =
+    let p = c .before .before .before in
+    let u = p .before .before .before .before in
+    let l = u .before .before in
+    let i = l .loop .inv in
+    let k = l .before .before .before in
+    let used = u .least .result in
+    let more : l .loop .at + used ≤ length (k .args .text .now) = omega (arith, i .0, u .least .ensures) in
+    let all = did-lent gen (omega arith) more (omega (arith, more, k .pre .1 .1)) (sym (i .1 .0)) (i .1 .1 .1 .1) (p .turn .ensures) in
+    (more, (omega (arith, i .1 .0), (p .turn .kept .1 .1 .1 .1 .1 .1 .0 ∙ i .1 .1 .0, (did-length gen (omega arith) more (omega (arith, more, k .pre .1 .1)) all, all))))
+
+returns : tie.Need-returns Inv-loop μ-loop
+unfolding gen
+returns c =
+    let l = c .before .loop in
+    let a = c .before .before .before .before .args in
+    let e : l .at ≡ length (a .text .now) = omega arith in
+    subst (λ (n : ℕ). Did gen (a .from) (a .st) n (a .text .now) (a .out .now) (l .cur) (l .out)) e (l .inv .1 .1 .1 .1)
+
+pub turns-spec : {M : Type 1} → statement M
+turns-spec =
+    tie.close (tie.spec Inv-loop μ-loop loop-holds (λ c. omega arith) (λ c. omega arith) (λ c κs. search needs)
+    (λ c. omega arith) (λ c. omega arith) (λ c. omega arith) (λ c. omega arith) (λ c. omega arith)
+    (λ c. omega arith) (λ c. omega arith) turn-requires (λ c. omega arith) add-at (λ c. omega arith) loop-again
+    (λ c. omega arith) returns)

@@ -1,0 +1,24 @@
+-- `mugi_text::fours` meets its contract. The loop's invariant: whole units of the text are done. What is left goes a unit to a turn.
+-- Assumes nothing.
+use mathlib.Core.Path.{refl}
+use Prim.Native.Nat.{_-_}
+use borrow.Author.Needs.{needs}
+use native.Mathlib.Omega.{arith}
+use Rattle.keystream.proofs.Parts.{Running, running-start, running-turn, running-end, tail-length}
+use Rattle.mugi.specs.Generator.{gen}
+use Rattle.mugi_text.proofs.fours.Statement.{statement}
+use Rattle.mugi_text.proofs.fours.Tie as tie
+
+abbrev Inv-loop : tie.InvT-loop
+Inv-loop t text out₀ count cur₀ at₀ out cur at = Running gen 8 cur₀ text out₀ out cur at
+
+abbrev μ-loop : tie.MeasureT-loop
+μ-loop t text out₀ count cur₀ at₀ out cur at = count - at
+
+pub fours-spec : {M : Type 1} → statement M
+unfolding gen
+fours-spec =
+    tie.close (tie.spec Inv-loop μ-loop (λ c. running-start gen 8 (omega arith) refl (omega arith)) (λ c. omega arith) (λ c. omega arith) (λ c. omega arith) (λ c. omega arith) (λ c. omega arith) (λ c. omega arith) (λ c. omega arith) (λ c κs. search needs) (λ c. omega arith) (λ c. omega arith)
+    (λ c. let l = c .before .before .before .before .before .before in running-turn gen 8 (omega arith) refl (l .before .before .before .pre .1) 32 refl (l .loop .inv) (c .before .before .before .before .before .loop-test .taken)
+    (c .before .before .four .ensures)) (λ c. omega arith) (λ c. omega arith) (λ c. omega arith) (λ c. omega arith) (λ c. omega arith) (λ c. omega arith) (λ c κs. search needs) (λ c. omega arith)
+    (λ c. let l = c .before .before .before .before .before .before in running-end gen 8 (omega arith) refl (l .before .before .before .pre .1) (l .loop .inv) (tail-length (l .loop .at) (l .before .before .before .args .text .now)) (c .before .before .ones .ensures)))

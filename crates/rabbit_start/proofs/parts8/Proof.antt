@@ -1,0 +1,26 @@
+-- `rabbit_start::parts8` meets its contract: each part is read from its own place.
+-- Assumes nothing.
+use mathlib.Core.Path.{refl}
+use Rattle.words.proofs.Registers.{cons}
+use Rattle.rabbit.specs.Cipher.{parts8}
+use borrow.Author.Needs.{needs}
+use Rattle.rabbit_start.proofs.parts8.Statement.{statement}
+use Rattle.rabbit_start.proofs.parts8.Tie as tie
+
+returns : tie.Need-returns
+unfolding parts8
+returns c =
+    cons (c .before .before .before .before .before .before .before .half-at .ensures)
+    (cons (c .before .before .before .before .before .before .half-at2 .ensures)
+    (cons (c .before .before .before .before .before .half-at3 .ensures)
+    (cons (c .before .before .before .before .half-at4 .ensures)
+    (cons (c .before .before .before .half-at5 .ensures)
+    (cons (c .before .before .half-at6 .ensures)
+    (cons (c .before .half-at7 .ensures)
+    (cons (c .half-at8 .ensures)
+    refl)))))))
+
+pub parts8-spec : {M : Type 1} → statement M
+parts8-spec =
+    tie.close (tie.spec (λ c κs. search needs) (λ c κs. search needs) (λ c κs. search needs) (λ c κs. search needs)
+    (λ c κs. search needs) (λ c κs. search needs) (λ c κs. search needs) (λ c κs. search needs) returns)

@@ -1,0 +1,70 @@
+-- `rabbit_units::fill` meets its contract. The loop's invariant: the first at bytes are those of whole units, and the state is that of the next.
+-- Assumes nothing.
+use mathlib.Core.Path.{_≡_, refl}
+use Prim.Native.Nat.{_+_, _-_, _≤_}
+use native.Mathlib.Omega.{arith}
+use lib.ListN.{length}
+use Rattle.keystream.proofs.Filling.{Filling, filling-start, filling-unit, filling-end}
+use Rattle.keystream.proofs.Parts.{tail-length}
+use Rattle.rabbit.specs.Generator.{gen}
+use Rattle.rabbit_units.proofs.Units.{unit-length, stepped}
+use borrow.Author.Needs.{needs}
+use Rattle.rabbit_units.proofs.fill.Statement.{statement}
+use Rattle.rabbit_units.proofs.fill.Tie as tie
+
+abbrev Inv-loop : tie.InvT-loop
+Inv-loop ks₀ s₀ at₀ ks s at = Filling gen 16 s₀ ks₀ ks s at
+
+abbrev μ-loop : tie.MeasureT-loop
+μ-loop ks₀ s₀ at₀ ks s at = length ks₀ - at
+
+unit-requires : tie.Need-unit-requires Inv-loop μ-loop
+unit-requires c κs =
+    let l = c .before .before in
+    let i = l .loop .inv in
+    let h = l .before .before .pre in
+    let w = i .whole in
+    let m = i .same-length in
+    omega (arith, tail-length (l .loop .at) (l .loop .ks))
+
+add-at : tie.Need-add-at Inv-loop μ-loop
+add-at c =
+    let l = c .before .before .before .before .before .before .before .before .before .before .before in
+    let i = l .loop .inv in
+    let h = l .before .before .pre in
+    let w = i .whole in
+    let m = i .same-length in
+    record { fits = omega arith }
+
+loop-again : tie.Need-loop-again Inv-loop μ-loop
+unfolding gen
+loop-again c =
+    let p = c .before .before .before .before .before .before .before .before in
+    let l = p .before .before .before in
+    let i = l .loop .inv in
+    let h = l .before .before .pre in
+    let w = i .whole in
+    let m = i .same-length in
+    let room : l .loop .at + 16 ≤ length (l .before .before .args .ks .now) = omega arith in
+    filling-unit gen 16 (omega arith) refl i room (unit-length (l .loop .s)) (p .unit .ensures)
+    (stepped (l .loop .s) (c .before .before .before .count .result) _ _ (c .before .before .before .count .ensures) (c .before .gs .ensures) (c .mix .ensures))
+
+same-length : tie.Need-same-length Inv-loop μ-loop
+same-length c = c .before .loop .inv .same-length
+
+returns : tie.Need-returns Inv-loop μ-loop
+unfolding gen
+returns c =
+    let i = c .before .loop .inv in
+    let a = i .at-most in
+    let m = i .same-length in
+    let e : c .before .loop .at ≡ length (c .before .before .before .args .ks .now) = omega arith in
+    filling-end gen 16 (omega arith) refl i e
+
+pub fill-spec : {M : Type 1} → statement M
+unfolding gen
+fill-spec =
+    tie.close (tie.spec Inv-loop μ-loop (λ c. filling-start gen 16 (omega arith) refl) (λ c. omega arith) (λ c. omega arith) (λ c. omega arith) unit-requires (λ c κs. search needs)
+    (λ c κs. search needs) (λ c κs. search needs) add-at
+    (λ c. let l = c .before .before .before .before .before .before .before .before .before .before .before in let m = l .loop .inv .same-length in omega arith) loop-again same-length
+    returns)

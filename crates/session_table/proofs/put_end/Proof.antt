@@ -1,0 +1,34 @@
+-- `session_table::put_end` meets its contract: the word, and each figure behind it.
+-- Assumes nothing.
+use mathlib.Core.Path.{refl}
+use native.Mathlib.Omega.{arith}
+use Rattle.session_table.specs.Table.{endOf, last}
+use Rattle.session_table.proofs.Text.{figure-room, behind-length, behind-part, behind-more}
+use borrow.Author.Needs.{needs}
+use Rattle.session_table.proofs.put_end.Statement.{statement}
+use Rattle.session_table.proofs.put_end.Tie as tie
+
+put-figure-requires-2 : tie.Need-put-figure-requires-2
+put-figure-requires-2 c κs =
+    let p2 = c .before .before .before in
+    let p1 = p2 .before .before .before .before in
+    let a = p1 .before .before .before .before in
+    let h = a .pre in
+    let l = behind-length (behind-part last _ (a .args .out .now) (a .args .at) 4 refl (omega arith) (p1 .put .ensures)) in
+    figure-room _ _ (p2 .put-figure .ensures) 21 (omega arith)
+
+returns : tie.Need-returns
+unfolding endOf
+returns c =
+    let p3 = c .before .before in
+    let p2 = p3 .before .before .before .before in
+    let p1 = p2 .before .before .before .before in
+    let a = p1 .before .before .before .before in
+    let h = a .pre in
+    behind-more
+    (behind-more (behind-part last _ (a .args .out .now) (a .args .at) 4 refl (omega arith) (p1 .put .ensures)) (p2 .put-figure .ensures))
+    (p3 .put-figure2 .ensures)
+
+pub put-end-spec : {M : Type 1} → statement M
+put-end-spec =
+    tie.close (tie.spec (search needs) (search needs) (search needs) (search needs) (search needs) (search needs) (search needs) put-figure-requires-2 (search needs) returns)

@@ -1,0 +1,57 @@
+// The table that the program prints: a figure, a call's line and the last line, each behind what stands before it in a buffer; and how many calls were accepted.
+ghost use mathlib.Core.Path.{_≡_};
+ghost use Prim.Native.Nat.{_+_, _≤_};
+ghost use lib.ListN.{length};
+ghost use Rattle.session_table.specs.Table.{Behind, figure, rowOf, endOf, acceptedOf};
+
+// A figure and the byte end go behind the first at bytes of out. Returns where they end.
+fn put_figure(n: u64, end: u8, at: usize, out: &mut [u8]) -> usize
+    requires { ⌜ at + 21 ≤ length (now out) ⌝ }
+    ensures { λ r. ⌜ Behind (figure n end) at (now (out .entry)) (now (out .exit)) r ⌝ }
+{
+    at + decimal::put(n, end, &mut out[at..])
+}
+
+// A line of the table goes behind the first at bytes of out. Returns where it ends.
+pub fn put_row(
+    call: usize,
+    code: u8,
+    command: usize,
+    text: usize,
+    written: usize,
+    at: usize,
+    out: &mut [u8],
+) -> usize
+    requires { ⌜ at + 105 ≤ length (now out) ⌝ }
+    ensures { λ r. ⌜ Behind (rowOf call code command text written) at (now (out .entry)) (now (out .exit)) r ⌝ }
+{
+    let a = put_figure(call as u64, 32, at, out);
+    let b = put_figure(code as u64, 32, a, out);
+    let c = put_figure(command as u64, 32, b, out);
+    let d = put_figure(text as u64, 32, c, out);
+    put_figure(written as u64, 10, d, out)
+}
+
+// The last line of the table goes behind the first at bytes of out. Returns where it ends.
+pub fn put_end(accepted: usize, code: u8, at: usize, out: &mut [u8]) -> usize
+    requires { ⌜ at + 46 ≤ length (now out) ⌝ }
+    ensures { λ r. ⌜ Behind (endOf accepted code) at (now (out .entry)) (now (out .exit)) r ⌝ }
+{
+    buffer::put(b"end ", &mut out[at..]);
+    let a = at + 4;
+    let b = put_figure(accepted as u64, 32, a, out);
+    put_figure(code as u64, 10, b, out)
+}
+
+// Accepted calls: all but a last one that was refused.
+pub fn accepted_of(calls: usize, code: u8) -> usize
+    ensures { λ r. ⌜ r ≡ acceptedOf calls code ⌝ }
+{
+    if code == 0 {
+        return calls;
+    }
+    if calls == 0 {
+        return 0;
+    }
+    calls - 1
+}

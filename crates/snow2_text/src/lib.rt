@@ -1,0 +1,73 @@
+// SNOW 2.0 over a text: the tables made once, the rest of a begun unit, whole units four to a turn, and the tail.
+// A caller holds that the place in the unit is one of its four bytes and that the text fits the buffer.
+ghost use mathlib.Core.Path.{_≡_};
+ghost use mathlib.Core.List.{_++_};
+ghost use Prim.Native.Nat.{_+_, _/_, _≤_, _<_};
+ghost use lib.ListN.{length, drop};
+ghost use Rattle.keystream.specs.Stream.{stateAt, byteAt, xorFrom, Did};
+ghost use Rattle.snow2_tables.specs.Tables.{Lent};
+ghost use Rattle.snow2.specs.Generator.{gen};
+use snow2::Snow2;
+use snow2_units::four;
+use snow2_units::part;
+use snow2_units::unit;
+
+// A text from the start of a unit on, a unit to a turn.
+fn ones(
+    st: Snow2,
+    a: &[u32; 256],
+    ai: &[u32; 256],
+    t: &[u32; 256],
+    text: &[u8],
+    out: &mut [u8],
+) -> Snow2
+    requires { ⌜ Lent (now a) (now ai) (now t) ⌝ }
+    requires { ⌜ length (now text) ≤ length (now out) ⌝ }
+    ensures { λ r. ⌜ Did gen 0 st (length (now (text .entry))) (now (text .entry)) (now (out .entry)) r (now (out .exit)) ⌝ }
+{
+    let count = text.len();
+    let mut cur = st;
+    let mut at: usize = 0;
+    while 4 <= count - at {
+        cur = unit(cur, a, ai, t, &text[at..], &mut out[at..]);
+        at += 4;
+    }
+    part(cur, a, ai, t, 0, count - at, &text[at..], &mut out[at..])
+}
+
+// A text from the start of a unit on, four units to a turn.
+fn fours(
+    st: Snow2,
+    a: &[u32; 256],
+    ai: &[u32; 256],
+    t: &[u32; 256],
+    text: &[u8],
+    out: &mut [u8],
+) -> Snow2
+    requires { ⌜ Lent (now a) (now ai) (now t) ⌝ }
+    requires { ⌜ length (now text) ≤ length (now out) ⌝ }
+    ensures { λ r. ⌜ Did gen 0 st (length (now (text .entry))) (now (text .entry)) (now (out .entry)) r (now (out .exit)) ⌝ }
+{
+    let count = text.len();
+    let mut cur = st;
+    let mut at: usize = 0;
+    while 16 <= count - at {
+        cur = four(cur, a, ai, t, &text[at..], &mut out[at..]);
+        at += 16;
+    }
+    ones(cur, a, ai, t, &text[at..], &mut out[at..])
+}
+
+// The text goes to the start of out, XORed with the keystream from byte skip of the unit of st on; the state that comes back is that of the unit in
+// which the next byte lies.
+pub fn crypt(st: Snow2, skip: usize, text: &[u8], out: &mut [u8]) -> Snow2
+    requires { ⌜ (skip < 4) × (length (now text) ≤ length (now out)) ⌝ }
+    ensures { λ r. ⌜ (r ≡ stateAt gen st 0 ((skip + length (now (text .entry))) / 4)) × (now (out .exit) ≡ xorFrom (byteAt gen st 0) skip (now (text .entry)) ++ drop (length (now (text .entry))) (now (out .entry))) ⌝ }
+{
+    let a = snow2_tables::alpha();
+    let ai = snow2_tables::inverse();
+    let t = field::tables::column();
+    let head = writer::least((4 - skip) % 4, text.len());
+    let cur = part(st, &a, &ai, &t, skip, head, text, out);
+    fours(cur, &a, &ai, &t, &text[head..], &mut out[head..])
+}

@@ -1,0 +1,33 @@
+-- `snow2_units::part` meets its contract: the bytes are those of one unit, which is used up or not.
+-- Assumes nothing.
+use mathlib.Core.Path.{ap, _∙_}
+use native.Mathlib.Omega.{arith}
+use Rattle.words.specs.Strings.{bytesOf}
+use Rattle.keystream.proofs.Parts.{part-end, part-within}
+use Rattle.snow2.specs.Cipher.{unit}
+use Rattle.snow2.specs.Generator.{gen}
+use borrow.Author.Needs.{needs}
+use Rattle.snow2_units.proofs.part.Statement.{statement}
+use Rattle.snow2_units.proofs.part.Tie as tie
+
+returns : tie.Need-returns
+unfolding gen unit
+returns c =
+    let p = c .before .before .before .before in
+    let o = p .before .before .before .before in
+    let a = o .before .before .before .args in
+    part-end gen (omega arith) (a .from) (a .used) (a .st) (a .text .now) (a .out .now) _ _ (p .before .before .before .bytes .ensures ∙ ap bytesOf (o .output .ensures)) (omega arith) (p .put-part .ensures)
+    (c .before .if1 .taken) (c .step .ensures)
+
+returns-2 : tie.Need-returns-2
+unfolding gen unit
+returns-2 c =
+    let o = c .before .before .before .before .before .before .before in
+    let a = o .before .before .before .args in
+    part-within gen (omega arith) (a .from) (a .used) (a .st) (a .text .now) (a .out .now) _ _ (c .before .before .before .before .before .before .bytes .ensures ∙ ap bytesOf (o .output .ensures)) (omega arith)
+    (c .before .before .before .put-part .ensures) (omega (arith, c .if1 .left))
+
+pub part-spec : {M : Type 1} → statement M
+part-spec =
+    tie.close (tie.spec (λ c κs. search needs) (λ c κs. search needs) (λ c. omega arith) (λ c κs. search needs)
+    (λ c. omega arith) (λ c κs. search needs) (λ c. omega arith) returns (λ c. omega arith) returns-2)

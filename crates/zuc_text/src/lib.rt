@@ -1,0 +1,58 @@
+// ZUC over a text: the tables made once, the rest of a begun unit, whole units four to a turn, and the tail.
+// A caller holds that the place in the unit is one of its four bytes and that the text fits the buffer.
+ghost use mathlib.Core.Path.{_≡_};
+ghost use mathlib.Core.List.{_++_};
+ghost use Prim.Native.Nat.{_+_, _/_, _≤_, _<_};
+ghost use lib.ListN.{length, drop};
+ghost use Rattle.keystream.specs.Stream.{stateAt, byteAt, xorFrom, Did};
+ghost use Rattle.zuc_tables.specs.Tables.{Lent};
+ghost use Rattle.zuc.specs.Generator.{gen};
+use zuc::Zuc;
+use zuc_units::four;
+use zuc_units::part;
+use zuc_units::unit;
+
+// A text from the start of a unit on, a unit to a turn.
+fn ones(st: Zuc, t1: &[u8; 256], t2: &[u8; 256], text: &[u8], out: &mut [u8]) -> Zuc
+    requires { ⌜ Lent (now t1) (now t2) ⌝ }
+    requires { ⌜ length (now text) ≤ length (now out) ⌝ }
+    ensures { λ r. ⌜ Did gen 0 st (length (now (text .entry))) (now (text .entry)) (now (out .entry)) r (now (out .exit)) ⌝ }
+{
+    let count = text.len();
+    let mut cur = st;
+    let mut at: usize = 0;
+    while 4 <= count - at {
+        cur = unit(cur, t1, t2, &text[at..], &mut out[at..]);
+        at += 4;
+    }
+    part(cur, t1, t2, 0, count - at, &text[at..], &mut out[at..])
+}
+
+// A text from the start of a unit on, four units to a turn.
+fn fours(st: Zuc, t1: &[u8; 256], t2: &[u8; 256], text: &[u8], out: &mut [u8]) -> Zuc
+    requires { ⌜ Lent (now t1) (now t2) ⌝ }
+    requires { ⌜ length (now text) ≤ length (now out) ⌝ }
+    ensures { λ r. ⌜ Did gen 0 st (length (now (text .entry))) (now (text .entry)) (now (out .entry)) r (now (out .exit)) ⌝ }
+{
+    let count = text.len();
+    let mut cur = st;
+    let mut at: usize = 0;
+    while 16 <= count - at {
+        cur = four(cur, t1, t2, &text[at..], &mut out[at..]);
+        at += 16;
+    }
+    ones(cur, t1, t2, &text[at..], &mut out[at..])
+}
+
+// The text goes to the start of out, XORed with the keystream from byte skip of the unit of st on; the state that comes back is that of the unit in
+// which the next byte lies.
+pub fn crypt(st: Zuc, skip: usize, text: &[u8], out: &mut [u8]) -> Zuc
+    requires { ⌜ (skip < 4) × (length (now text) ≤ length (now out)) ⌝ }
+    ensures { λ r. ⌜ (r ≡ stateAt gen st 0 ((skip + length (now (text .entry))) / 4)) × (now (out .exit) ≡ xorFrom (byteAt gen st 0) skip (now (text .entry)) ++ drop (length (now (text .entry))) (now (out .entry))) ⌝ }
+{
+    let t1 = zuc_tables::sub1();
+    let t2 = zuc_tables::sub2();
+    let head = writer::least((4 - skip) % 4, text.len());
+    let cur = part(st, &t1, &t2, skip, head, text, out);
+    fours(cur, &t1, &t2, &text[head..], &mut out[head..])
+}
