@@ -1,6 +1,6 @@
 //! Checks the second implementation by annex C, document 01's cases and what named cases have written down, then
 //! holds `cardrun` against it on the named cases and on command lists from a seed. Ends with 0 if all agree and every
-//! number was met, else with 1.
+//! number was met, else with 1; its last line says which, as `tests/second`.
 
 #![forbid(unsafe_code)]
 
@@ -13,7 +13,7 @@ use std::process::ExitCode;
 
 fn main() -> ExitCode {
     let outcome = args::read(std::env::args().skip(1)).map_err(|told| format!("{told}\n{}", args::USAGE));
-    match outcome.and_then(|options| run(&options)) {
+    match outcome.and_then(|options| run(&options).map_err(|told| format!("{told}\nsecond: failed"))) {
         Ok(()) => ExitCode::SUCCESS,
         Err(told) => {
             eprintln!("{told}");
@@ -31,6 +31,7 @@ fn run(options: &Options) -> Result<(), String> {
     println!("document 01: {} cases hold", cases::check()?);
     println!("named cases: {} hold of the second implementation", named::check()?);
     if options.lists == 0 {
+        println!("second: its own checks passed, cardrun was not run");
         return Ok(());
     }
     let program = options.cardrun.clone().unwrap_or_else(args::usual_place);
@@ -43,5 +44,6 @@ fn run(options: &Options) -> Result<(), String> {
     if options.only.is_none() && !missing.is_empty() {
         return Err(format!("never met: {missing:?}"));
     }
+    println!("{}", report::verdict("second", &tally));
     Ok(())
 }

@@ -1,6 +1,6 @@
 //! Holds the card's C interface, linked as a program in C or Rust links it, against the second implementation: cards
 //! that are none, card buffers and counts of other lengths, the named cases, and call lists from a seed. Ends with 0 if
-//! all agree and every number was met, else with 1.
+//! all agree and every number was met, else with 1; its last line says which, as `tests/linked`.
 
 #![forbid(unsafe_code)]
 
@@ -24,7 +24,7 @@ use std::process::ExitCode;
 
 fn main() -> ExitCode {
     let outcome = args::read(std::env::args().skip(1)).map_err(|told| format!("{told}\n{}", args::USAGE));
-    match outcome.and_then(|options| run(&options)) {
+    match outcome.and_then(|options| run(&options).map_err(|told| format!("{told}\nlinked: failed"))) {
         Ok(()) => ExitCode::SUCCESS,
         Err(told) => {
             eprintln!("{told}");
@@ -50,6 +50,7 @@ fn run(options: &Options) -> Result<(), String> {
     if options.only.is_none() && !missing.is_empty() {
         return Err(format!("never met: {missing:?}"));
     }
+    println!("{}", report::verdict("linked", &tally));
     Ok(())
 }
 
