@@ -1,7 +1,11 @@
 /* The cipher card for an exchange: eight lines, enciphered with the stream ciphers of ISO/IEC 18033-4.
  *
- * A card is an array of PIPESHEAR_CARD words that the caller keeps and does not look into. All zero is a fresh card, with all lines idle.
+ * A card is an array of PIPESHEAR_CARD words that the caller keeps and does not look into. All zero is a fresh card, with all lines idle and no park made.
  * A card can be copied, kept in a file and taken up again on the same kind of machine; what is not a card is found out (code 255).
+ *
+ * A parked call is taken up once. A park writes its number into the image, and the card holds it until an image with that number is resumed or the same line is parked
+ * again; opens, crypts and closes leave it. So an image serves on the card that parked it, on whichever line, and is refused from then on (code 14). The numbers are in the
+ * card: of a card and its copies only one should go on, or an image could be taken up on each.
  *
  * Link with target/staticlib/libpipeshear.a, which `rt staticlib pipeshear` makes for Linux on x86-64. */
 #ifndef PIPESHEAR_H
@@ -15,10 +19,10 @@ extern "C" {
 #endif
 
 /* The words of a card. */
-#define PIPESHEAR_CARD 336
+#define PIPESHEAR_CARD 345
 
-/* The bytes of a parked line's image. */
-#define PIPESHEAR_IMAGE 161
+/* The bytes of a parked line's image: the cipher's number, the position in eight bytes, the park's number in four, and the state, with zeros after a shorter one. */
+#define PIPESHEAR_IMAGE 165
 
 /* One call: the first command in `command` is run on `card`.
  *
@@ -34,14 +38,15 @@ extern "C" {
  *
  * Returns 0 for an accepted command. Any other code is a refusal: card and out stand as they did, and the three counts are 0.
  *
- *     1  command empty or cut short          8  an image that is none
- *     2  first byte not 01 to 06             9  tray length not a multiple of 32, or over 8192
- *     3  line over 7                        10  key number not in the tray
- *     4  cipher not 1 to 6                  11  data shorter than the count
- *     5  open or resume on an open line     12  out shorter than the count, or than an image for a park
- *     6  crypt, park or close on an idle    13  position and count over 2^36
- *     7  a key or IV byte beyond the       255  damaged card, card_words not PIPESHEAR_CARD, or places not 3
- *        cipher's length is not 0
+ *     1  command empty or cut short          9  tray length not a multiple of 32, or over 8192
+ *     2  first byte not 01 to 06            10  key number not in the tray
+ *     3  line over 7                        11  data shorter than the count
+ *     4  cipher not 1 to 6                  12  out shorter than the count, or than an image for a park
+ *     5  open or resume on an open line     13  position and count over 2^36
+ *     6  crypt, park or close on an idle    14  park number not held
+ *     7  a key or IV byte beyond the        15  no park number left: 4,294,967,295 parks have been made
+ *        cipher's length is not 0          255  damaged card, card_words not PIPESHEAR_CARD, or places not 3
+ *     8  an image that is none
  *
  * Where places is not 3 the counts, too, stand as they did.
  *

@@ -1,6 +1,6 @@
 /* A call between the two ends of a trunk. The near end enciphers two frames, parks the call and goes on with it on
- * another line; the far end, a card of its own with the same key, deciphers all of it in frames of other lengths. Ends
- * with 0 if the text came back. rust/examples/trunk.rs is the same in Rust. */
+ * another line, where it is taken up once; the far end, a card of its own with the same key, deciphers all of it in
+ * frames of other lengths. Ends with 0 if the text came back. rust/examples/trunk.rs is the same in Rust. */
 #include "pipeshear.h"
 
 #include <stdio.h>
@@ -57,11 +57,12 @@ static void park_line(uint32_t *card, uint8_t line, uint8_t *image)
     accepted(call(card, command, sizeof command, none, 0, image, PIPESHEAR_IMAGE));
 }
 
-static void resume_line(uint32_t *card, uint8_t line, const uint8_t *image)
+/* Returns the code. */
+static uint8_t resume_line(uint32_t *card, uint8_t line, const uint8_t *image)
 {
     uint8_t command[2 + PIPESHEAR_IMAGE] = {0x05, line};
     memcpy(command + 2, image, PIPESHEAR_IMAGE);
-    accepted(call(card, command, sizeof command, none, 0, none, 0));
+    return call(card, command, sizeof command, none, 0, none, 0);
 }
 
 /* Enciphers a part of the text to the same part of the wire. */
@@ -91,7 +92,8 @@ int main(void)
     encipher(near_end, 0, wire, 7, 6);
     park_line(near_end, 0, image);
     printf("parked: a crypt on line 0 is refused with code %d\n", crypt_frame(near_end, 0, none, none, 0));
-    resume_line(near_end, 3, image);
+    accepted(resume_line(near_end, 3, image));
+    printf("taken up: a second resume, on line 4, is refused with code %d\n", resume_line(near_end, 4, image));
     encipher(near_end, 3, wire, 13, 27);
 
     open_line(far_end, 5);

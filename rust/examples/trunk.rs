@@ -1,6 +1,6 @@
 //! A call between the two ends of a trunk. The near end enciphers two frames, parks the call and goes on with it on
-//! another line; the far end, a card of its own with the same key, deciphers all of it in frames of other lengths. Ends
-//! with 0 if the text came back. `examples/c/trunk.c` is the same in C.
+//! another line, where it is taken up once; the far end, a card of its own with the same key, deciphers all of it in
+//! frames of other lengths. Ends with 0 if the text came back. `examples/c/trunk.c` is the same in C.
 
 use pipeshear::{command, Card, Cipher, Refusal, IMAGE};
 use std::process::ExitCode;
@@ -37,6 +37,9 @@ fn trunk() -> Result<Vec<u8>, Refusal> {
         println!("parked: a crypt on line 0 is refused with code {}", refusal.code());
     }
     near_end.call(&command::resume(3, &image), &[], &[], &mut [])?;
+    if let Err(refusal) = near_end.call(&command::resume(4, &image), &[], &[], &mut []) {
+        println!("taken up: a second resume, on line 4, is refused with code {}", refusal.code());
+    }
     encipher(&mut near_end, 3, &mut wire, 27)?;
 
     let (mut far_end, mut heard) = (opened(5)?, Vec::new());

@@ -33,12 +33,14 @@ pub fn crypt(line: u8, count: u16) -> [u8; 4] {
     [0x03, line, high, low]
 }
 
-/// Writes an open line's image to the start of out and makes the line idle.
+/// Writes an open line's image to the start of out and makes the line idle. The image has the park's number in it,
+/// which the card holds in the place of the number that was last parked from this line.
 pub fn park(line: u8) -> [u8; 2] {
     [0x04, line]
 }
 
-/// Opens an idle line from an image, at the byte where the parked line stopped.
+/// Opens an idle line from an image, at the byte where the parked line stopped. The card must hold the image's park
+/// number, and then holds it no more: an image serves once.
 pub fn resume(line: u8, image: &[u8; IMAGE]) -> [u8; 2 + IMAGE] {
     let mut bytes = [0; 2 + IMAGE];
     bytes[..2].copy_from_slice(&[0x05, line]);
@@ -72,7 +74,20 @@ mod tests {
         assert_eq!(counts(&mut card, &resume(0, &out), &mut []), (2 + IMAGE, 0, 0));
         assert_eq!(counts(&mut card, &close(0), &mut out), (2, 0, 0));
         assert_eq!(counts(&mut card, &close(1), &mut out), (2, 0, 0));
-        assert_eq!(card, Card::new());
+        // All lines are idle and no number is held; one park was made.
+        let mut words = *card.words();
+        assert_eq!(std::mem::take(&mut words[8 * 42]), 1);
+        assert_eq!(Card::from_words(words), Card::new());
+    }
+
+    #[test]
+    fn an_image_has_the_number_of_its_park() {
+        let (mut card, mut out) = (Card::new(), [0; IMAGE]);
+        for number in 1..=3 {
+            counts(&mut card, &open_tray(7, Cipher::Mugi, 0, &[9; IV]), &mut out);
+            counts(&mut card, &park(7), &mut out);
+            assert_eq!(out[9..13], [0, 0, 0, number]);
+        }
     }
 
     #[test]
@@ -83,5 +98,6 @@ mod tests {
         assert_eq!(open_own(6, Cipher::Rabbit, &key, &iv)[34..36], [0xAA, 0xBB]);
         assert_eq!(crypt(6, 0x1234), [3, 6, 0x12, 0x34]);
         assert_eq!(resume(6, &[0xCC; IMAGE])[..3], [5, 6, 0xCC]);
+        assert_eq!(resume(6, &[0xCC; IMAGE]).len(), 167);
     }
 }

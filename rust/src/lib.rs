@@ -20,28 +20,31 @@
 //! # Ok::<(), pipeshear::Refusal>(())
 //! ```
 //!
-//! A call is parked and goes on, on another line or another card, from the byte where it stopped:
+//! A call is parked and goes on, on another line, from the byte where it stopped. Its image serves on the card that
+//! parked it, and there once:
 //!
 //! ```
 //! use pipeshear::{command, Card, Cipher, IMAGE};
 //!
-//! let mut here = Card::new();
-//! here.call(&command::open_own(2, Cipher::Zuc, &[0; 32], &[0; 16]), &[], &[], &mut [])?;
-//! let mut whole = here.clone();
+//! let mut card = Card::new();
+//! card.call(&command::open_own(2, Cipher::Zuc, &[0; 32], &[0; 16]), &[], &[], &mut [])?;
+//! let mut whole = card.clone();
 //!
 //! let mut first = [0; 7];
-//! here.call(&command::crypt(2, 7), &[], b"hello, ", &mut first)?;
+//! card.call(&command::crypt(2, 7), &[], b"hello, ", &mut first)?;
 //! let mut image = [0; IMAGE];
-//! here.call(&command::park(2), &[], &[], &mut image)?;
+//! card.call(&command::park(2), &[], &[], &mut image)?;
 //!
-//! let mut there = Card::new();
-//! there.call(&command::resume(5, &image), &[], &[], &mut [])?;
+//! card.call(&command::resume(5, &image), &[], &[], &mut [])?;
 //! let mut second = [0; 6];
-//! there.call(&command::crypt(5, 6), &[], b"ward 7", &mut second)?;
+//! card.call(&command::crypt(5, 6), &[], b"ward 7", &mut second)?;
 //!
 //! let mut all = [0; 13];
 //! whole.call(&command::crypt(2, 13), &[], b"hello, ward 7", &mut all)?;
 //! assert_eq!([&first[..], &second].concat(), all);
+//!
+//! let again = card.call(&command::resume(6, &image), &[], &[], &mut []).unwrap_err();
+//! assert_eq!(again.to_string(), "park number not held (code 14)");
 //! # Ok::<(), pipeshear::Refusal>(())
 //! ```
 
@@ -61,5 +64,6 @@ pub use cipher::Cipher;
 pub use raw::raw_call;
 pub use refusal::Refusal;
 
-/// The bytes of a parked line's image.
-pub const IMAGE: usize = 161;
+/// The bytes of a parked line's image: the cipher's number, the position in eight bytes, the park's number in four, and
+/// the state, with zeros after a shorter one.
+pub const IMAGE: usize = 165;

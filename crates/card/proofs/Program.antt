@@ -7,7 +7,8 @@ use Rattle.machine.specs.Machine.{Machine, Call, Seen, step, cardStep, freshMac
 use Rattle.machine.specs.Logs.{Made, madeOf, callsOf}
 use Rattle.machine.specs.OneStream.{BytesIn, OneStream, Counted}
 use Rattle.machine.specs.Steps.{Steps, none as no-steps, step as one-step}
-use Rattle.machine.proofs.Steps.{steps-one-stream, steps-counted}
+use Rattle.machine.specs.Parking.{ParkedCalls}
+use Rattle.machine.proofs.Steps.{steps-one-stream, steps-counted, steps-parked-calls}
 use Rattle.card_layout.proofs.Cards.{fresh-words}
 use Rattle.card_outcome.specs.Outcomes.{outcomeOf, Code}
 use Rattle.card_outcome.specs.Leaves.{outOf, Untouched}
@@ -49,6 +50,10 @@ one-stream xs h = steps-one-stream xs (from-fresh h)
 -- In such a list the crypts of a line take positions one after the other, none past 2^36, and 255 is never said.
 pub counted : (xs : List Made) → Ran fresh xs → Counted xs
 counted xs h = steps-counted xs (from-fresh h)
+
+-- In such a list an image that a park wrote is taken up until its line parks again.
+pub parked-calls : (xs : List Made) → Ran fresh xs → ParkedCalls xs
+parked-calls xs h = steps-parked-calls xs (from-fresh h)
 
 module _ (c : Card) (a : Call) (r : Answer) (o : List ℕ) (h : Promised c a r o) where
   -- A refusal returns the card and out unchanged and three zeros, whatever card was handed in.

@@ -26,7 +26,7 @@ fresh = record { words = replicate cardSize 0 }
 unfoldable pub answerOf : Card → Call → Answer
 answerOf c a = let s = cardStep (seenOf c) a in record { card = record { words = wordsOf s (c .words) }; outcome = outcomeOf (s .outcome) }
 
--- the promise of `call`: the answer and out, each in one equation; that the card holds the lines that the step shows; and that it was lent bytes
+-- the promise of `call`: the answer and out, each in one equation; that the card holds the lines and the parks that the step shows; and that it was lent bytes
 pub record Promised (c : Card) (a : Call) (r : Answer) (o : List ℕ) : Type 0 where
   pub answer-is : r ≡ answerOf c a
   pub out-is : o ≡ outOf (cardStep (seenOf c) a) (a .out)

@@ -1,5 +1,5 @@
--- Walks that end at the first element that fails: the test of a list is the test of what is left of it while each element passed, false at one that fails, and true
--- at the end. Words put together are zero where each of them is.
+-- Walks that end at the first element that decides: what is said of a list is what is said of the elements that are left, as long as none before them decides, and at the
+-- end what is said of no elements. Words put together are zero where each of them is.
 -- Assumes nothing.
 use mathlib.Core.Path.{_≡_, refl, ap, sym, _∙_}
 use mathlib.Core.Bool.{Bool, true, false}
@@ -16,24 +16,38 @@ use borrow.Author.Tests.{ne-eqb}
 use Rattle.words.specs.Tests.{both}
 use Rattle.ciphers.specs.Table.{allOf, isZero}
 
+-- what f says of a list is what it says of the elements from i on
+abbrev pub Left : (List ℕ → Bool) → List ℕ → ℕ → Type 0
+Left f l i = (i ≤ length l) × (f l ≡ f (drop i l))
+
+module _ (f : List ℕ → Bool) (l : List ℕ) (i : ℕ) (p : Left f l i) where
+  pub left-here : i < length l → f l ≡ f (getD l i 0 ∷ drop (suc i) l)
+  left-here h = p .1 ∙ ap f (drop-cons l i 0 h)
+
+  pub left-next : i < length l → f (getD l i 0 ∷ drop (suc i) l) ≡ f (drop (suc i) l) → Left f l (i + 1)
+  left-next h e = (omega arith, left-here h ∙ e ∙ ap (λ (k : ℕ). f (drop k l)) (sym (add-one i)))
+
+  pub left-none : length l ≤ i → f l ≡ f []
+  left-none h =
+      let e : i ≡ length l = omega arith in
+      p .1 ∙ ap (λ (k : ℕ). f (drop k l)) e ∙ ap f (drop-length l)
+
 -- the elements before i passed
 abbrev pub Passed : (ℕ → Bool) → List ℕ → ℕ → Type 0
-Passed t l i = (i ≤ length l) × (allOf t l ≡ allOf t (drop i l))
+Passed t = Left (allOf t)
 
 module _ (t : ℕ → Bool) (l : List ℕ) (i : ℕ) (h : i < length l) (p : Passed t l i) where
-  one-more : (b : Bool) → t (getD l i 0) ≡ b → allOf t l ≡ both b (allOf t (drop (suc i) l))
-  one-more b e = p .1 ∙ ap (allOf t) (drop-cons l i 0 h) ∙ ap (λ (x : Bool). both x (allOf t (drop (suc i) l))) e
+  judged : (b : Bool) → t (getD l i 0) ≡ b → both (t (getD l i 0)) (allOf t (drop (suc i) l)) ≡ both b (allOf t (drop (suc i) l))
+  judged b e = ap (λ (x : Bool). both x (allOf t (drop (suc i) l))) e
 
   pub fails : t (getD l i 0) ≡ false → false ≡ allOf t l
-  fails e = sym (one-more false e)
+  fails e = sym (left-here (allOf t) l i p h ∙ judged false e)
 
   pub passes : t (getD l i 0) ≡ true → Passed t l (i + 1)
-  passes e = (omega arith, one-more true e ∙ ap (λ (k : ℕ). allOf t (drop k l)) (sym (add-one i)))
+  passes e = left-next (allOf t) l i p h (judged true e)
 
 pub all-pass : (t : ℕ → Bool) (l : List ℕ) (i : ℕ) → length l ≤ i → Passed t l i → true ≡ allOf t l
-all-pass t l i h p =
-    let e : i ≡ length l = omega arith in
-    sym (p .1 ∙ ap (λ (k : ℕ). allOf t (drop k l)) e ∙ ap (allOf t) (drop-length l))
+all-pass t l i h p = sym (left-none (allOf t) l i p h)
 
 -- ---- words put together: the whole is zero where each of them is
 

@@ -1,4 +1,4 @@
-// What numbers 8 and 255 ask: an open line that is well formed, and a card whose lines are as a call leaves them.
+// What numbers 8 and 255 ask: an open line that is well formed, and a card whose lines and parks are as a call leaves them.
 // The caller must ensure that a state, a line and a card have their words.
 ghost use mathlib.Core.Path.{_≡_};
 ghost use mathlib.Core.Bool.{true};
@@ -66,5 +66,5 @@ pub fn card_ok(card: &[u32]) -> bool
         }
         i += 1;
     }
-    true
+    card_parks::parks_ok(card)
 }

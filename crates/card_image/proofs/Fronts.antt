@@ -1,6 +1,6 @@
 -- An image goes to a buffer part by part: the cipher's byte, and behind it the words, each behind the one before it.
 -- Assumes nothing.
-use mathlib.Core.Path.{_≡_, refl, ap, ap₂, sym, subst, _∙_}
+use mathlib.Core.Path.{_≡_, refl, ap, ap₂, sym, _∙_}
 use mathlib.Core.List.{List, [], _∷_, _++_, append-assoc, append-nil}
 use Prim.Native.Nat.{ℕ, zero, suc, _+_, _-_, _*_, _/_, _%_, _^_, _<_, _≤_}
 use native.Mathlib.Nat.{le-of-suc-le-suc, not-suc-le-zero}
@@ -59,27 +59,61 @@ word-more w before out ys i q h f e =
 pub words-all : (w before out : List ℕ) (i : ℕ) → length w ≡ i → Front (spelt (take i w)) before out (4 * i) → out ≡ spelt w ++ drop (4 * i) before
 words-all w before out i n f = f .is ∙ ap (λ (x : List ℕ). spelt x ++ drop (4 * i) before) (take-all i w (omega arith))
 
--- ---- an image: the cipher's byte, and the words of the line behind its mode and its cipher
+-- ---- an image: the cipher's byte, the words of the line's position, the number, and the words of its state
+
+joined : (c a b k : ℕ) (w : List ℕ) → (((c ∷ []) ++ spelt (a ∷ b ∷ [])) ++ bytesOf k) ++ spelt w ≡ c ∷ spelt (a ∷ b ∷ k ∷ w)
+unfolding bytesOf
+joined c a b k w = refl
+
+small : (ws : List ℕ) → lineIn ws .cipher < 2 ^ 8
+unfolding lineIn
+small ws = omega arith
+
+full : (ws : List ℕ) → length (lineIn ws .words) ≡ 38
+unfolding lineIn
+full ws = refl
 
 module _ (ws : List ℕ) (held : LineHeld ws) (before : List ℕ) (fits : imageLength ≤ length before) where
-  pub body : drop 2 ws ≡ lineIn ws .n / 2 ^ 32 ∷ lineIn ws .n % 2 ^ 32 ∷ lineIn ws .words
+  place : take 2 (drop 2 ws) ≡ lineIn ws .n / 2 ^ 32 ∷ lineIn ws .n % 2 ^ 32 ∷ []
   unfolding lineWords
-  body = ap (drop 2) (sym (held .words))
+  place = ap (λ (x : List ℕ). take 2 (drop 2 x)) (sym (held .words))
 
-  body-length : length (drop 2 ws) ≡ 40
-  body-length = length-drop 2 ws ∙ (let e : length ws - 2 ≡ 40 = omega (arith, held .size) in e)
+  state : drop 4 ws ≡ lineIn ws .words
+  unfolding lineWords
+  state = ap (drop 4) (sym (held .words))
+
+  pub place-length : length (take 2 (drop 2 ws)) ≡ 2
+  place-length = ap length place
+
+  pub state-length : length (drop 4 ws) ≡ 38
+  state-length = length-drop 4 ws ∙ (let e : length ws - 4 ≡ 38 = omega (arith, held .size) in e)
 
   pub front-1 : (c : ℕ) → Front (c ∷ []) before (set before 0 c) 1
   front-1 c = front-byte c before (omega arith)
 
-  pub front-image : (c : ℕ) → c ≡ lineIn ws .cipher → (ys : List ℕ) →
-      ys ≡ spelt (drop 2 ws) ++ drop (4 * length (drop 2 ws)) (take (length (set before 0 c) - 1) (drop 1 (set before 0 c))) →
-      Front (imageOf (lineIn ws)) before (putMid 1 (length (set before 0 c) - 1) (set before 0 c) ys) imageLength
-  unfolding lineIn
-  front-image c e ys q =
-      let n : length (spelt (drop 2 ws)) ≡ 160 = spelt-length (drop 2 ws) ∙ ap (λ (k : ℕ). 4 * k) body-length in
+  pub front-place : (c : ℕ) (ys : List ℕ) →
+      ys ≡ spelt (take 2 (drop 2 ws)) ++ drop (4 * length (take 2 (drop 2 ws))) (take (length (set before 0 c) - 1) (drop 1 (set before 0 c))) →
+      Front ((c ∷ []) ++ spelt (take 2 (drop 2 ws))) before (putMid 1 (length (set before 0 c) - 1) (set before 0 c) ys) 9
+  front-place c ys q =
       let rest : List ℕ = take (length (set before 0 c) - 1) (drop 1 (set before 0 c)) in
-      let f = front-more (spelt (drop 2 ws)) ys 160 n fits (front-1 c) (q ∙ ap (λ (k : ℕ). spelt (drop 2 ws) ++ drop (4 * k) rest) body-length) in
-      let i : (c ∷ []) ++ spelt (drop 2 ws) ≡ imageOf (lineIn ws) =
-      ap₂ (λ (x : ℕ) (y : List ℕ). x ∷ spelt y) e body ∙ sym (image-spelt (lineIn ws) (omega arith) refl) in
-      subst (λ (x : List ℕ). Front x before (putMid 1 (length (set before 0 c) - 1) (set before 0 c) ys) imageLength) i f
+      let part = take 2 (drop 2 ws) in
+      front-more (spelt part) ys 8 (spelt-length part ∙ ap (λ (k : ℕ). 4 * k) place-length) (omega arith) (front-1 c)
+      (q ∙ ap (λ (k : ℕ). spelt part ++ drop (4 * k) rest) place-length)
+
+  pub front-number : {p out : List ℕ} (k : ℕ) (ys : List ℕ) → Front p before out 9 → ys ≡ bytesOf k ++ drop 4 (take (length out - 9) (drop 9 out)) →
+      Front (p ++ bytesOf k) before (putMid 9 (length out - 9) out ys) 13
+  front-number k ys f e = front-word k ys (omega arith) f e
+
+  pub front-state : {p out : List ℕ} (ys : List ℕ) → Front p before out 13 → ys ≡ spelt (drop 4 ws) ++ drop (4 * length (drop 4 ws)) (take (length out - 13) (drop 13 out)) →
+      Front (p ++ spelt (drop 4 ws)) before (putMid 13 (length out - 13) out ys) imageLength
+  front-state {p} {out} ys f q =
+      let rest : List ℕ = take (length out - 13) (drop 13 out) in
+      front-more (spelt (drop 4 ws)) ys 152 (spelt-length (drop 4 ws) ∙ ap (λ (k : ℕ). 4 * k) state-length) (omega arith) f
+      (q ∙ ap (λ (k : ℕ). spelt (drop 4 ws) ++ drop (4 * k) rest) state-length)
+
+  pub parts-image : (c k : ℕ) → c ≡ lineIn ws .cipher → (((c ∷ []) ++ spelt (take 2 (drop 2 ws))) ++ bytesOf k) ++ spelt (drop 4 ws) ≡ imageOf k (lineIn ws)
+  parts-image c k e =
+      ap₂ (λ (x y : List ℕ). (((c ∷ []) ++ spelt x) ++ bytesOf k) ++ spelt y) place state
+      ∙ joined c (lineIn ws .n / 2 ^ 32) (lineIn ws .n % 2 ^ 32) k (lineIn ws .words)
+      ∙ ap (λ (x : ℕ). x ∷ spelt (lineIn ws .n / 2 ^ 32 ∷ lineIn ws .n % 2 ^ 32 ∷ k ∷ lineIn ws .words)) e
+      ∙ sym (image-spelt k (lineIn ws) (small ws) (full ws))

@@ -1,17 +1,17 @@
 -- A card is read back from its words where words can hold its lines, as they can hold those of every machine that a list of calls leads to.
 -- Assumes nothing.
 use mathlib.Core.Path.{_≡_, refl, ap, ap₂, sym, _∙_}
-use mathlib.Core.List.{List, [], _∷_, _++_, map}
-use Prim.Native.Nat.{ℕ, _*_}
+use mathlib.Core.List.{List, [], _∷_, _++_, map, append-assoc}
+use Prim.Native.Nat.{ℕ, suc, _+_, _*_}
 use native.Mathlib.Omega.{arith}
 use lib.ListN.{length, length-map, length-append}
 use lib.Seq.{drop-at, take-at}
 use Rattle.card_sizes.specs.Sizes.{stateWords, lineSize, lineCount, cardSize}
-use Rattle.machine.specs.Machine.{Line, MLine, Machine, Seen, shown, unitAt, seen}
+use Rattle.machine.specs.Machine.{Line, MLine, Machine, shown, unitAt, seen}
 use Rattle.machine.proofs.Lines.{Good, good-idle, good-open, good-ok, shown-idle, state-fit}
 use Rattle.machine.proofs.Simulation.{AllGood, none-good, more-good}
 use Rattle.card_line.specs.Words.{lineIn, lineWords}
-use Rattle.card_layout.specs.Words.{linesIn, linesWords, cardIn, cardWords}
+use Rattle.card_layout.specs.Words.{linesIn, linesWords, parksIn, parksWords, cardIn, cardWords}
 use Rattle.card_line.proofs.Lines.{Plain, small, line-read, line-length}
 use Rattle.card_layout.proofs.Cards.{lines-first}
 
@@ -19,17 +19,23 @@ data AllPlain : List Line → Type 0 where
   no-plain : AllPlain []
   more-plain : {l : Line} {ls : List Line} → Plain l → AllPlain ls → AllPlain (l ∷ ls)
 
-lines-read : (ls : List Line) → AllPlain ls → linesIn (length ls) (linesWords ls) ≡ ls
-lines-read [] no-plain = refl
-lines-read (l ∷ ls) (more-plain s h) =
+lines-read : (ls : List Line) (rest : List ℕ) → AllPlain ls → linesIn (length ls) (linesWords ls ++ rest) ≡ ls
+lines-read [] rest no-plain = refl
+lines-read (l ∷ ls) rest (more-plain s h) =
     let n = line-length l (s .full) in
-    lines-first (length ls) (lineWords l ++ linesWords ls)
-    ∙ ap₂ (λ (x y : List ℕ). lineIn x ∷ linesIn (length ls) y) (take-at (lineWords l) (linesWords ls) lineSize n) (drop-at (lineWords l) (linesWords ls) lineSize n)
-    ∙ ap₂ _∷_ (line-read l s) (lines-read ls h)
+    let more = linesWords ls ++ rest in
+    ap (linesIn (suc (length ls))) (append-assoc (lineWords l) (linesWords ls) rest)
+    ∙ lines-first (length ls) (lineWords l ++ more)
+    ∙ ap₂ (λ (x y : List ℕ). lineIn x ∷ linesIn (length ls) y) (take-at (lineWords l) more lineSize n) (drop-at (lineWords l) more lineSize n)
+    ∙ ap₂ _∷_ (line-read l s) (lines-read ls rest h)
 
 lines-length : (ls : List Line) → AllPlain ls → length (linesWords ls) ≡ lineSize * length ls
 lines-length [] no-plain = refl
-lines-length (l ∷ ls) (more-plain s h) = omega (arith, length-append (lineWords l) (linesWords ls), line-length l (s .full), lines-length ls h)
+lines-length (l ∷ ls) (more-plain s h) =
+    let a = line-length l (s .full) in
+    let b = lines-length ls h in
+    let c = length-append (lineWords l) (linesWords ls) in
+    omega arith
 
 full-of : (l : MLine) → Good l → length (shown l .words) ≡ stateWords
 unfolding shown
@@ -47,13 +53,22 @@ module _ (m : Machine) (g : AllGood (m .lines)) (n : length (m .lines) ≡ lineC
   abbrev ls : List Line
   ls = map shown (m .lines)
 
+  abbrev own : List ℕ
+  own = parksWords (m .parks)
+
   eight : length ls ≡ lineCount
   eight = length-map (m .lines) shown ∙ n
 
+  lines-end : length (linesWords ls) ≡ lineSize * lineCount
+  lines-end = lines-length ls (all-plain g) ∙ ap (_*_ lineSize) eight
+
   pub seen-read : cardIn (cardWords (seen m)) ≡ seen m
   unfolding cardIn cardWords
-  seen-read = ap (λ (x : List Line). record { lines = x }) (ap (λ (k : ℕ). linesIn k (linesWords ls)) (sym eight) ∙ lines-read ls (all-plain g))
+  seen-read =
+      let e = ap (λ (k : ℕ). linesIn k (linesWords ls ++ own)) (sym eight) ∙ lines-read ls own (all-plain g) in
+      let f = drop-at (linesWords ls) own (lineSize * lineCount) lines-end in
+      λ j. record { lines = e j; parks = parksIn (f j) }
 
-  pub seen-length : length (cardWords (seen m)) ≡ cardSize
+  pub seen-length : length (m .parks .held) ≡ lineCount → length (cardWords (seen m)) ≡ cardSize
   unfolding cardWords
-  seen-length = lines-length ls (all-plain g) ∙ ap (_*_ lineSize) eight
+  seen-length h = length-append (linesWords ls) own ∙ ap₂ (λ (x y : ℕ). x + suc y) lines-end h

@@ -1,19 +1,20 @@
 -- A card's words, line by line: a line that is set stands in its words, and the words of the others are as they were.
 -- Assumes nothing.
 use mathlib.Core.Path.{_≡_, refl, ap, ap₂, sym, subst, _∙_}
-use mathlib.Core.List.{List, [], _∷_, _++_, append-assoc, append-nil}
+use mathlib.Core.List.{List, [], _∷_, _++_, append-assoc}
 use Prim.Native.Nat.{ℕ, zero, suc, _+_, _-_, _*_, _<_, _≤_}
 use native.Mathlib.Nat.{not-suc-le-zero}
 use native.Mathlib.Decide.{decLt}
 use native.Mathlib.Omega.{arith}
 use borrow.Rule.Slice.PartMut.{putMid, post-is}
-use lib.ListN.{length, getD, take, drop, set, replicate, take-append-drop, length-drop}
-use lib.Seq.{length-take-le, drop-drop, drop-at, take-at, take-add, drop-length}
+use lib.ListN.{length, getD, take, drop, set, replicate, take-append-drop, length-drop, length-append}
+use lib.Seq.{length-take-le, drop-drop, drop-at, take-at, take-add, drop-cons}
 use Rattle.card_sizes.specs.Sizes.{lineSize, lineCount, cardSize}
-use Rattle.machine.specs.Machine.{Line, Seen, idleLine, withLineSeen, freshCard}
+use Rattle.machine.specs.Machine.{Line, idleLine, withLineSeen, withParksSeen, freshCard}
+use Rattle.machine.specs.Parks.{Parks}
 use Rattle.machine.specs.Logs.{lineOn}
 use Rattle.card_line.specs.Words.{lineIn, lineWords, LineHeld}
-use Rattle.card_layout.specs.Words.{wordsAt, linesIn, linesWords, cardIn, cardWords, putLine, Held, Sound}
+use Rattle.card_layout.specs.Words.{wordsAt, linesIn, linesWords, parksIn, parksWords, cardIn, cardWords, putLine, putParks, Held, Sound}
 use Rattle.card_line.proofs.Lines.{Plain, line-read, line-length}
 
 -- ---- the lines of a card
@@ -137,21 +138,72 @@ lines-set (suc k) (suc i) ws l q n p =
     ∙ ap (λ (x : List Line). lineIn (take lineSize ws) ∷ x) (lines-set k i (drop lineSize ws) l (omega arith) (omega (arith, length-drop lineSize ws)) p)
     ∙ ap (λ (x : List Line). set x (suc i) l) (sym (lines-first k ws))
 
--- nothing is behind the lines
-behind : (ws : List ℕ) → length ws ≡ cardSize → drop (lineSize * lineCount) ws ≡ []
-behind ws n = ap (λ (k : ℕ). drop k ws) (sym n) ∙ drop-length ws
+-- what is behind the lines is as it was where a line was put
+rest-same : (k i : ℕ) (ws : List ℕ) (l : Line) → i < k → lineSize * k ≤ length ws → length (lineWords l) ≡ lineSize → drop (lineSize * k) (putLine ws i l) ≡ drop (lineSize * k) ws
+unfolding putLine
+rest-same zero i ws l q n m = absurd (not-suc-le-zero q)
+rest-same (suc k) zero ws l q n m =
+    sym (further k (lineWords l ++ drop lineSize ws)) ∙ ap (drop (lineSize * k)) (drop-at (lineWords l) (drop lineSize ws) lineSize m) ∙ further k ws
+rest-same (suc k) (suc i) ws l q n m =
+    let r = putLine (drop lineSize ws) i l in
+    ap (drop (lineSize * suc k)) (put-next i ws l)
+    ∙ sym (further k (take lineSize ws ++ r))
+    ∙ ap (drop (lineSize * k)) (drop-at (take lineSize ws) r lineSize (length-take-le lineSize ws (omega arith)))
+    ∙ rest-same k i (drop lineSize ws) l (omega arith) (omega (arith, length-drop lineSize ws)) m
+    ∙ further k ws
+
+-- the parks are the words behind the lines, and nothing else is
+behind : (ws : List ℕ) → length ws ≡ cardSize → parksWords (parksIn (drop (lineSize * lineCount) ws)) ≡ drop (lineSize * lineCount) ws
+behind ws n = sym (drop-cons (drop (lineSize * lineCount) ws) 0 0 (omega (arith, length-drop (lineSize * lineCount) ws)))
 
 -- The card of words in which a line was put, and the words of a card in which it is set.
 pub put-seen : (ws : List ℕ) (i : ℕ) (l : Line) → i < lineCount → length ws ≡ cardSize → Plain l → cardIn (putLine ws i l) ≡ withLineSeen (cardIn ws) i l
 unfolding cardIn
-put-seen ws i l q n p = ap (λ (x : List Line). record { lines = x }) (lines-set lineCount i ws l q (omega arith) p)
+put-seen ws i l q n p =
+    let e = rest-same lineCount i ws l q (omega arith) (line-length l (p .full)) in
+    let f = lines-set lineCount i ws l q (omega arith) p in
+    λ j. record { lines = f j; parks = parksIn (e j) }
 
 pub put-words : (ws : List ℕ) (i : ℕ) (l : Line) → i < lineCount → Sound ws → cardWords (withLineSeen (cardIn ws) i l) ≡ putLine ws i l
 unfolding cardIn cardWords
 put-words ws i l q s =
-    sym (append-nil (linesWords (set (linesIn lineCount ws) i l)))
-    ∙ ap (λ (x : List ℕ). linesWords (set (linesIn lineCount ws) i l) ++ x) (sym (behind ws (s .size)))
-    ∙ words-set lineCount i ws l q (s .held)
+    ap (λ (x : List ℕ). linesWords (set (linesIn lineCount ws) i l) ++ x) (behind ws (s .size)) ∙ words-set lineCount i ws l q (s .held)
+
+-- ---- the parks are set
+
+lines-front : (k : ℕ) (ws : List ℕ) → lineSize * k ≤ length ws → linesIn k (take (lineSize * k) ws) ≡ linesIn k ws
+lines-front zero ws n = refl
+lines-front (suc k) ws n =
+    let a : lineSize * suc k ≡ lineSize + lineSize * k = omega arith in
+    let m = length-take-le lineSize ws (omega arith) in
+    let r = take (lineSize * k) (drop lineSize ws) in
+    ap (λ (n : ℕ). linesIn (suc k) (take n ws)) a
+    ∙ ap (linesIn (suc k)) (take-add lineSize (lineSize * k) ws)
+    ∙ lines-first k (take lineSize ws ++ r)
+    ∙ ap₂ (λ (x y : List ℕ). lineIn x ∷ linesIn k y) (take-at (take lineSize ws) r lineSize m) (drop-at (take lineSize ws) r lineSize m)
+    ∙ ap (λ (x : List Line). lineIn (take lineSize ws) ∷ x) (lines-front k (drop lineSize ws) (omega (arith, length-drop lineSize ws)))
+    ∙ sym (lines-first k ws)
+
+-- The card of words in which parks were put, and the words of a card in which they are set.
+pub parks-seen : (ws : List ℕ) (p : Parks) → length ws ≡ cardSize → cardIn (putParks ws p) ≡ withParksSeen (cardIn ws) p
+unfolding cardIn putParks
+parks-seen ws p n =
+    let front = take (lineSize * lineCount) ws in
+    let m = length-take-le (lineSize * lineCount) ws (omega arith) in
+    let long : lineSize * lineCount ≤ length (front ++ parksWords p) = omega (arith, length-append front (parksWords p), m) in
+    let e : linesIn lineCount (front ++ parksWords p) ≡ linesIn lineCount ws =
+    sym (lines-front lineCount (front ++ parksWords p) long) ∙ ap (linesIn lineCount) (take-at front (parksWords p) (lineSize * lineCount) m) ∙ lines-front lineCount ws (omega arith) in
+    let f = drop-at front (parksWords p) (lineSize * lineCount) m in
+    λ j. record { lines = e j; parks = parksIn (f j) }
+
+pub parks-words : (ws : List ℕ) (p : Parks) → Sound ws → cardWords (withParksSeen (cardIn ws) p) ≡ putParks ws p
+unfolding cardIn cardWords putParks
+parks-words ws p s =
+    let l = linesWords (linesIn lineCount ws) in
+    let r = drop (lineSize * lineCount) ws in
+    let e : l ++ r ≡ ws = words-same lineCount ws (s .held) in
+    let n : length l ≡ lineSize * lineCount = omega (arith, length-append l r, ap length e, length-drop (lineSize * lineCount) ws, s .size) in
+    ap (λ (x : List ℕ). x ++ parksWords p) (sym (take-at l r (lineSize * lineCount) n) ∙ ap (take (lineSize * lineCount)) e)
 
 -- A fresh card is all zeros.
 pub fresh-words : cardIn (replicate cardSize 0) ≡ freshCard

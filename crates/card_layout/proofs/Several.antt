@@ -1,7 +1,7 @@
 -- A line that is put leaves the others as they were, and a card that is as a call leaves it: so a command may put several lines, one after the other.
 -- Assumes nothing.
-use mathlib.Core.Path.{_≡_, refl, ap, sym, subst, _∙_}
-use mathlib.Core.Bool.{Bool, true}
+use mathlib.Core.Path.{_≡_, refl, ap, sym, _∙_}
+use mathlib.Core.Bool.{true}
 use mathlib.Core.List.{List, _++_}
 use Prim.Native.Nat.{ℕ, zero, suc, _+_, _*_, _<_, _≤_}
 use native.Mathlib.Decide.{decLt}
@@ -10,7 +10,8 @@ use lib.ListN.{length, getD, take, drop, set, length-append, length-drop}
 use lib.Seq.{length-take-le, drop-at, take-at, getD-set-same, getD-set-other}
 use Rattle.ciphers.proofs.Tests.{both-left, both-right, both-true}
 use Rattle.card_sizes.specs.Sizes.{lineSize, lineCount}
-use Rattle.machine.specs.Machine.{Line, Seen, idleLine, lineOk, allOk, cardOk}
+use Rattle.machine.specs.Machine.{Line, idleLine, lineOk, allOk, cardOk}
+use Rattle.machine.specs.Parks.{parksOk}
 use Rattle.machine.specs.Logs.{lineOn}
 use Rattle.card_line.specs.Words.{lineIn, lineWords}
 use Rattle.card_layout.specs.Words.{wordsAt, cardIn, putLine, Sound}
@@ -81,7 +82,8 @@ module _ (ws : List ℕ) (s : Sound ws) (i : ℕ) (q : i < lineCount) (l : Line)
   put-sound k =
       record {
         size = put-length i ws l full within ∙ s .size;
-        ok = ap cardOk (put-seen ws i l q (s .size) p) ∙ all-set lineCount (cardIn ws .lines) i l (omega (arith, card-lines ws)) k (s .ok);
+        ok = ap cardOk (put-seen ws i l q (s .size) p) ∙ both-true (all-set lineCount (cardIn ws .lines) i l (omega (arith, card-lines ws)) k (both-left _ (parksOk (cardIn ws .parks)) (s .ok)))
+            (both-right (allOk lineCount (cardIn ws .lines)) (parksOk (cardIn ws .parks)) (s .ok));
         held = λ j h. by j h (decLt i j) (decLt j i);
       }
     where

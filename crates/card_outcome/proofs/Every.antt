@@ -9,10 +9,10 @@ use lib.ListN.{length, length-set, replicate}
 use borrow.Author.Tests.{eqb-false}
 use Rattle.words.specs.Tests.{pick}
 use Rattle.card_sizes.specs.Sizes.{lineCount, cardSize}
-use Rattle.machine.specs.Machine.{Machine, Seen, Shown, Call, Effect, refuse, put, crypt, park, idle, seen, shows, public, decide, perform, step, cardStep, freshMachine}
+use Rattle.machine.specs.Machine.{Machine, Seen, Shown, Call, Effect, refuse, put, crypt, park, resume, idle, seen, shows, public, decide, perform, step, cardStep, freshMachine}
 use Rattle.machine.specs.Logs.{Made, madeOf, callsOf}
 use Rattle.machine.specs.OneStream.{CallBytes}
-use Rattle.machine.proofs.Simulation.{AllGood, step-same, step-good, fresh-good}
+use Rattle.machine.proofs.Simulation.{GoodCard, step-same, step-good, fresh-good}
 use Rattle.machine.proofs.OneStream.{fresh-seen}
 use Rattle.card_layout.specs.Words.{cardIn, cardWords}
 use Rattle.card_layout.proofs.Cards.{fresh-words}
@@ -22,7 +22,7 @@ use Rattle.card_outcome.specs.Leaves.{outOf, wordsOf, Called}
 
 -- words that hold what is seen of a machine that a list of calls leads to
 pub record Stored (m : Machine) (ws : List ℕ) : Type 0 where
-  pub good : AllGood (m .lines)
+  pub good : GoodCard m
   pub eight : length (m .lines) ≡ lineCount
   pub card : cardIn ws ≡ seen m
   pub size : length ws ≡ cardSize
@@ -39,6 +39,7 @@ module _ {m : Machine} {ws : List ℕ} (t : Stored m ws) (a : Call) (b : CallByt
   eight-on (put i l size) = length-set (m .lines) i l ∙ t .eight
   eight-on (crypt i n size) = length-set (m .lines) i _ ∙ t .eight
   eight-on (park i size) = length-set (m .lines) i idle ∙ t .eight
+  eight-on (resume i l k size) = length-set (m .lines) i l ∙ t .eight
 
   eight-next : length (step m a .machine .lines) ≡ lineCount
   unfolding step
@@ -49,6 +50,7 @@ module _ {m : Machine} {ws : List ℕ} (t : Stored m ws) (a : Call) (b : CallByt
   kept-by (put i l size) f = absurd (f refl)
   kept-by (crypt i n size) f = absurd (f refl)
   kept-by (park i size) f = absurd (f refl)
+  kept-by (resume i l k size) f = absurd (f refl)
 
   kept : (step m a .outcome .code ≡ 0 → ⊥) → seen m ≡ seen (step m a .machine)
   unfolding step
@@ -60,7 +62,7 @@ module _ {m : Machine} {ws : List ℕ} (t : Stored m ws) (a : Call) (b : CallByt
   card-next = ap (λ (s : Shown). cardIn (pick (eqb (s .outcome .code) 0) (cardWords (s .card)) ws)) same ∙ by (eqb (step m a .outcome .code) 0) refl ∙ sym (ap (λ (s : Shown). s .card) same)
     where
       by : (x : Bool) → eqb (step m a .outcome .code) 0 ≡ x → cardIn (pick x (cardWords (seen (step m a .machine))) ws) ≡ seen (step m a .machine)
-      by true e = seen-read (step m a .machine) (step-good m (t .good) a b) eight-next
+      by true e = seen-read (step m a .machine) (step-good m (t .good) a b .lines) eight-next
       by false e = t .card ∙ kept (eqb-false (step m a .outcome .code) 0 e)
 
   size-next : length (wordsOf after ws) ≡ cardSize
@@ -68,7 +70,7 @@ module _ {m : Machine} {ws : List ℕ} (t : Stored m ws) (a : Call) (b : CallByt
   size-next = by (eqb (after .outcome .code) 0)
     where
       by : (x : Bool) → length (pick x (cardWords (after .card)) ws) ≡ cardSize
-      by true = ap (λ (s : Shown). length (cardWords (s .card))) same ∙ seen-length (step m a .machine) (step-good m (t .good) a b) eight-next
+      by true = ap (λ (s : Shown). length (cardWords (s .card))) same ∙ seen-length (step m a .machine) (step-good m (t .good) a b .lines) eight-next (step-good m (t .good) a b .long)
       by false = t .size
 
   pub every-call : Called ws a (outcomeOf (after .outcome)) (wordsOf after ws) (outOf after (a .out))

@@ -8,25 +8,26 @@ use Prim.Native.Nat.{ℕ, zero, suc, _+_, _<_, _≤_}
 use native.Mathlib.Nat.{le-of-suc-le-suc, not-suc-le-zero}
 use native.Mathlib.Decide.{decLt}
 use native.Mathlib.Omega.{arith}
-use lib.Dec.{ltb, eqb}
-use lib.ListN.{length, getD, take, drop, set}
+use lib.Dec.{ltb, leb, eqb}
+use lib.ListN.{length, getD, take, drop}
 use lib.Seq.{length-take-le}
 use borrow.Author.Tests.{lt-ltb, le-ltb, ne-eqb}
 use Rattle.words.specs.Tests.{both, pick}
 use Rattle.keystream.proofs.Laws.{xorFrom-length}
 use Rattle.ciphers.proofs.Tests.{both-left, both-right}
 use Rattle.card_sizes.specs.Sizes.{lineCount, imageLength}
-use Rattle.machine.specs.Machine.{Line, MLine, Machine, View, Seen, Shown, noView, Effect, refuse, put, crypt, park, refuseIf, idle, idleLine, based, shown, moved, byteOf, enciphered, viewOf, viewAt, isIdle, isOpen, limit, lineOk, openOk, idleOk, allOk, imageOf, back, seen, withLine, withLineSeen, perform, shows}
+use Rattle.machine.specs.Machine.{Line, MLine, View, Seen, noView, Effect, refuse, put, crypt, park, resume, refuseIf, idle, idleLine, based, shown, moved, byteOf, enciphered, viewOf, viewAt, isIdle, isOpen, limit, lineOk, openOk, idleOk, allOk, imageOf, back, seen, withLine, withLineSeen, withParksSeen}
+use Rattle.machine.specs.Parks.{Parks, lastPark, noMore, numberNow, parked, holds, taken, parksOk}
 use Rattle.machine.specs.Logs.{lineOn}
 use Rattle.machine.proofs.Lines.{shown-based, shown-idle}
 use Rattle.machine.proofs.Seen.{seen-back, seen-with}
-use Rattle.card_line.specs.Words.{lineIn}
-use Rattle.card_layout.specs.Words.{wordsAt, cardIn, cardWords, putLine, Sound}
+use Rattle.card_layout.specs.Words.{wordsAt, cardIn, cardWords, putLine, putParks, Sound}
 use Rattle.card_line.proofs.Lines.{Plain, ok-plain, idle-plain}
-use Rattle.card_layout.proofs.Cards.{line-here, card-lines, put-seen, put-words}
+use Rattle.card_layout.proofs.Cards.{line-here, card-lines, put-seen, put-words, parks-seen, parks-words}
+use Rattle.card_layout.proofs.Several.{put-sound}
 use Rattle.card_outcome.specs.declared.Outcome.{Outcome}
 use Rattle.card_outcome.specs.Outcomes.{refusal, acceptance, outcomeOf}
-use Rattle.card_outcome.specs.Leaves.{outOf, wordsOf, publicOf, Leaves, Gives}
+use Rattle.card_outcome.specs.Leaves.{outOf, wordsOf, publicOf, Gives}
 
 -- ---- the lines of a card that is as a call leaves it
 
@@ -41,7 +42,7 @@ line-ok (suc n) ls i h e = go (decLt i n) (λ q. line-ok n ls i q (both-left (al
         ap (λ (k : ℕ). lineOk (getD ls k idleLine)) z ∙ both-right (allOk n ls) (lineOk (getD ls n idleLine)) e
 
 pub sound-ok : (ws : List ℕ) → Sound ws → (i : ℕ) → i < lineCount → lineOk (lineOn (cardIn ws) i) ≡ true
-sound-ok ws s i h = line-ok lineCount (cardIn ws .lines) i h (s .ok)
+sound-ok ws s i h = line-ok lineCount (cardIn ws .lines) i h (both-left _ (parksOk (cardIn ws .parks)) (s .ok))
 
 pub sound-plain : (ws : List ℕ) → Sound ws → (i : ℕ) → i < lineCount → Plain (lineOn (cardIn ws) i)
 sound-plain ws s i h =
@@ -77,6 +78,20 @@ module _ (ws : List ℕ) (i : ℕ) where
 
   pub over-no : {n : ℕ} → n ≡ lineOn (cardIn ws) i .n → (k : ℕ) → n + k ≤ limit → ltb limit (viewAt (publicOf ws) i .pos + k) ≡ false
   over-no {n} e k h = ap (λ (v : View). ltb limit (v .pos + k)) view-is ∙ ap (λ (x : ℕ). ltb limit (x + k)) (sym e) ∙ le-ltb limit (n + k) h
+
+-- what the rows ask of the parks
+
+pub full-is : (ws : List ℕ) {n : ℕ} → n ≡ cardIn ws .parks .count → (b : Bool) → leb lastPark n ≡ b → noMore (publicOf ws .parks) ≡ b
+unfolding publicOf noMore
+full-is ws e b h = ap (leb lastPark) (sym e) ∙ h
+
+pub held-by : (ws : List ℕ) (k : ℕ) → holds (publicOf ws .parks) k ≡ holds (cardIn ws .parks) k
+unfolding publicOf
+held-by ws k = refl
+
+-- a line that is put leaves them
+pub put-parks : (ws : List ℕ) (i : ℕ) (l : Line) → i < lineCount → Sound ws → Plain l → cardIn (putLine ws i l) .parks ≡ cardIn ws .parks
+put-parks ws i l q s p = ap (λ (c : Seen). c .parks) (put-seen ws i l q (s .size) p)
 
 -- ---- what an effect gives
 
@@ -137,16 +152,39 @@ module _ (ws text out : List ℕ) where
           out-is = g ∙ ap₂ (λ (x : List ℕ) (j : ℕ). x ++ drop j out) w lw;
         }
 
-    pub given-park : (size : ℕ) → length (imageOf (lineOn (cardIn ws) i)) ≡ imageLength → {ws' : List ℕ} → ws' ≡ putLine ws i idleLine →
-        {o : List ℕ} → o ≡ imageOf (lineOn (cardIn ws) i) ++ drop imageLength out → {r : Outcome} → r ≡ acceptance size 0 imageLength → Gives ws text out (park i size) r ws' o
-    unfolding outcomeOf outOf wordsOf
+    -- and then its parks
+    module _ (m : MLine) (l : Line) (e : l ≡ shown m) (p : Plain l) (ok : lineOk l ≡ true) (f : Parks → Parks) where
+      both-seen : {ws' : List ℕ} → ws' ≡ putParks (putLine ws i l) (f (cardIn (putLine ws i l) .parks)) →
+          cardIn ws' ≡ withParksSeen (seen (withLine (back (cardIn ws)) i m)) (f (cardIn ws .parks))
+      both-seen h =
+          ap cardIn h ∙ parks-seen (putLine ws i l) (f (cardIn (putLine ws i l) .parks)) (put-sound ws s i q l p ok .size)
+          ∙ ap₂ (λ (c : Seen) (x : Parks). withParksSeen c (f x)) (placed-seen m l e p refl) (put-parks ws i l q s p)
+
+      both-words : {ws' : List ℕ} → ws' ≡ putParks (putLine ws i l) (f (cardIn (putLine ws i l) .parks)) →
+          ws' ≡ cardWords (withParksSeen (seen (withLine (back (cardIn ws)) i m)) (f (cardIn ws .parks)))
+      both-words h =
+          h ∙ sym (parks-words (putLine ws i l) (f (cardIn (putLine ws i l) .parks)) (put-sound ws s i q l p ok))
+          ∙ ap₂ (λ (c : Seen) (x : Parks). cardWords (withParksSeen c (f x))) (placed-seen m l e p refl) (put-parks ws i l q s p)
+
+    pub given-park : (size : ℕ) → length (imageOf (numberNow (cardIn ws .parks)) (lineOn (cardIn ws) i)) ≡ imageLength →
+        {ws' : List ℕ} → ws' ≡ putParks (putLine ws i idleLine) (parked (cardIn (putLine ws i idleLine) .parks) i) →
+        {o : List ℕ} → o ≡ imageOf (numberNow (cardIn ws .parks)) (lineOn (cardIn ws) i) ++ drop imageLength out → {r : Outcome} → r ≡ acceptance size 0 imageLength → Gives ws text out (park i size) r ws' o
+    unfolding outcomeOf outOf wordsOf lineOk idleOk
     given-park size t h g k =
         let m = getD (map based (cardIn ws .lines)) i idle in
-        let w : imageOf (lineOn (cardIn ws) i) ≡ imageOf (shown m) = sym (ap imageOf (ap shown base-is ∙ shown-based (lineOn (cardIn ws) i))) in
-        let n : imageLength ≡ length (imageOf (shown m)) = sym t ∙ ap length w in
+        let image = imageOf (numberNow (cardIn ws .parks)) in
+        let w : image (lineOn (cardIn ws) i) ≡ image (shown m) = sym (ap image (ap shown base-is ∙ shown-based (lineOn (cardIn ws) i))) in
+        let n : imageLength ≡ length (image (shown m)) = sym t ∙ ap length w in
         record {
           outcome-is = k ∙ ap (acceptance size 0) n;
-          card-is = placed-seen idle idleLine (sym shown-idle) idle-plain h;
-          words-are = placed-words idle idleLine (sym shown-idle) h;
+          card-is = both-seen idle idleLine (sym shown-idle) idle-plain refl (λ x. parked x i) h;
+          words-are = both-words idle idleLine (sym shown-idle) idle-plain refl (λ x. parked x i) h;
           out-is = g ∙ ap₂ (λ (x : List ℕ) (j : ℕ). x ++ drop j out) w n;
         }
+
+    pub given-resume : (n size : ℕ) (m : MLine) (l : Line) → l ≡ shown m → Plain l → lineOk l ≡ true →
+        {ws' : List ℕ} → ws' ≡ putParks (putLine ws i l) (taken (cardIn (putLine ws i l) .parks) n) → {r : Outcome} → r ≡ acceptance size 0 0 →
+        Gives ws text out (resume i m n size) r ws' out
+    unfolding outcomeOf outOf wordsOf
+    given-resume n size m l e p ok h k =
+        record { outcome-is = k; card-is = both-seen m l e p ok (λ x. taken x n) h; words-are = both-words m l e p ok (λ x. taken x n) h; out-is = refl }

@@ -4,10 +4,9 @@ use mathlib.Core.Path.{_≡_, refl, ap, sym, subst, _∙_}
 use mathlib.Core.Bool.{Bool}
 use mathlib.Core.List.{List, []}
 use Prim.Native.Nat.{ℕ}
-use lib.Dec.{eqb}
 use borrow.Author.Tests.{ne-eqb}
 use Rattle.words.specs.Tests.{pick}
-use Rattle.machine.specs.Machine.{Machine, Seen, Shown, Call, Outcome as Machine·Outcome, Effect, refuse, put, crypt, park, answer, perform, decide, public, back, shows, step, cardStep, lastNumber}
+use Rattle.machine.specs.Machine.{Machine, Seen, Call, Outcome as Machine·Outcome, Effect, refuse, put, crypt, park, resume, answer, perform, decide, public, back, step, cardStep}
 use Rattle.machine.proofs.Codes.{of-card, code-small}
 use Rattle.card_layout.specs.Words.{cardIn, cardWords}
 use Rattle.card_outcome.specs.declared.Outcome.{Outcome}
@@ -23,6 +22,7 @@ performed m text (refuse k) f = refl
 performed m text (put i l size) f = absurd (f refl)
 performed m text (crypt i n size) f = absurd (f refl)
 performed m text (park i size) f = absurd (f refl)
+performed m text (resume i l k size) f = absurd (f refl)
 
 zeros : (c : Seen) (a : Call) → Zeros (cardStep c a .outcome)
 unfolding step

@@ -18,7 +18,10 @@ use card_sizes::PARK;
 use card_sizes::RESUME;
 use card_sizes::RESUME_IMAGE;
 
-// A park: the image of line i goes to the start of out, and the line is idle.
+// As many parks as 32 bits count.
+const LAST_PARK: u32 = 4_294_967_295;
+
+// A park: the image of line i, with the next number, goes to the start of out, the line is idle, and the card holds the number.
 pub fn run_park(card: &mut [u32], i: u8, out: &mut [u8]) -> Outcome
     requires { ⌜ Sound (now card) × (i < lineCount) ⌝ }
     ensures { λ r. ⌜ ((command tray text : List ℕ) → Does (now (card .entry)) (Park i) (callOf command tray text (now (out .entry))) r (now (card .exit)) (now (out .exit))) ⌝ }
@@ -27,17 +30,23 @@ pub fn run_park(card: &mut [u32], i: u8, out: &mut [u8]) -> Outcome
     if mode != 1 {
         return refused(6);
     }
+    let count = card_parks::park_count(card);
+    if count >= LAST_PARK {
+        return refused(15);
+    }
     if out.len() < IMAGE {
         return refused(12);
     }
+    let number = count + 1;
     let at = LINE * (i as usize);
     let end = at + LINE;
-    card_image::put(&card[at..end], out);
+    card_image::put(&card[at..end], number, out);
     card_layout::clear_line(card, i);
+    card_parks::put_parked(card, i, number);
     accepted(PARK, 0, IMAGE)
 }
 
-// A resume of line i from the command's image.
+// A resume of line i from the command's image, whose number the card holds, and then holds no more.
 pub fn run_resume(card: &mut [u32], i: u8, command: &[u8]) -> Outcome
     requires { ⌜ Sound (now card) × (i < lineCount) ⌝ }
     requires { ⌜ resumeLength ≤ length (now command) ⌝ }
@@ -51,11 +60,17 @@ pub fn run_resume(card: &mut [u32], i: u8, command: &[u8]) -> Outcome
     let cipher = card_image::cipher_in(img);
     let n = card_image::position_in(img);
     let state = card_image::words_in(img);
+    let number = card_image::number_in(img);
     let ok = card_checks::open_with(cipher, n, &state);
+    let held = card_parks::is_held(card, number);
     if !ok {
         return refused(8);
     }
+    if !held {
+        return refused(14);
+    }
     card_layout::put_line(cipher, n, &state, card, i);
+    card_parks::take_up(card, number);
     accepted(RESUME, 0, 0)
 }
 

@@ -18,13 +18,25 @@ lineSize = headWords + stateWords
 abbrev pub lineCount : ℕ
 lineCount = 8
 
--- the words of a card
-abbrev pub cardSize : ℕ
-cardSize = lineSize * lineCount
+-- the words before a card's parks: its lines
+abbrev pub parksAt : ℕ
+parksAt = lineSize * lineCount
 
--- the bytes before an image's state: its cipher and its position in eight
+-- and before the numbers that it holds: how many parks were made
+abbrev pub heldAt : ℕ
+heldAt = parksAt + 1
+
+-- the words of a card: for each line the number last parked from it stands at the end
+abbrev pub cardSize : ℕ
+cardSize = heldAt + lineCount
+
+-- the bytes before the number of an image's park: its cipher and its position in eight
+abbrev pub imageNumberAt : ℕ
+imageNumberAt = 9
+
+-- and before its state: the number in four
 abbrev pub imageState : ℕ
-imageState = 9
+imageState = imageNumberAt + 4
 
 -- the bytes of an image
 abbrev pub imageLength : ℕ

@@ -12,11 +12,20 @@ pub const LINE: usize = HEAD + STATE;
 // The lines of a card.
 pub const LINES: usize = 8;
 
-// The words of a card.
-pub const CARD: usize = LINE * LINES;
+// The words before a card's parks: its lines.
+pub const PARKS_AT: usize = LINE * LINES;
 
-// The bytes before an image's state: its cipher and its position in eight.
-pub const IMAGE_STATE: usize = 9;
+// And before the numbers that it holds: how many parks were made.
+pub const HELD: usize = PARKS_AT + 1;
+
+// The words of a card: for each line the number last parked from it stands at the end.
+pub const CARD: usize = HELD + LINES;
+
+// The bytes before the number of an image's park: its cipher and its position in eight.
+pub const IMAGE_NUMBER: usize = 9;
+
+// And before its state: the number in four.
+pub const IMAGE_STATE: usize = IMAGE_NUMBER + 4;
 
 // The bytes of an image.
 pub const IMAGE: usize = IMAGE_STATE + 4 * STATE;

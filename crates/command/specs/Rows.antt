@@ -18,9 +18,9 @@ abbrev pub unless : {A : Type 0} → (Bool → ℕ → A → A) → List Row →
 unless refuseIf [] e = e
 unless refuseIf (r ∷ rs) e = refuseIf (r .given) (r .number) (unless refuseIf rs e)
 
--- the last number of document 01's list but 255
+-- the last number of document 01's list, with document 02's, but 255
 abbrev pub lastNumber : ℕ
-lastNumber = 13
+lastNumber = 15
 
 -- ---- the commands that a row is about, by their first bytes
 

@@ -1,10 +1,11 @@
--- The edges of document 01 on whole calls: real command bytes on a card of eight lines, and for each call its code, its three counts and, where it is accepted, what the lines are after it.
+-- The edges of document 01, and of its parks by document 02, on whole calls: real command bytes on a card of eight lines, and for each call its code, its three counts and, where it is accepted, what the lines and the parks are after it.
 -- Assumes nothing.
 use mathlib.Core.List.{List, [], _∷_, _++_, map}
-use Prim.Native.Nat.{ℕ, zero, suc, _+_, _-_, _*_, _/_, _%_, _^_}
+use Prim.Native.Nat.{ℕ, zero, suc, _+_, _-_, _/_, _%_, _^_}
 use lib.ListN.{length, replicate, set}
 use Rattle.card_sizes.specs.Sizes.{stateWords, imageLength, resumeLength}
-use Rattle.machine.specs.Machine.{Line, Seen, Call, Shown, idleLine, cardStep}
+use Rattle.machine.specs.Machine.{Line, Seen, Call, idleLine, cardStep}
+use Rattle.machine.specs.Parks.{Parks, freshParks, lastPark}
 
 -- what is computed of a call, and what document 01 says
 pub record Step : Type 0 where
@@ -38,18 +39,28 @@ openLine c n w = record { mode = 1; cipher = c; n = n; words = w }
 abbrev cells : List ℕ
 cells = replicate 16 1 ++ zeros 22
 
--- lines 0, 1 and 6 are idle; 2 is open with ZUC within a unit, 3 with Rabbit at a unit's end, 4 with SNOW 2.0 before the last position, 5 with MUGI behind it, 7 with KCipher-2 at its start
+-- lines 0, 1 and 6 are idle; 2 is open with ZUC within a unit, 3 with Rabbit at a unit's end, 4 with SNOW 2.0 before the last position, 5 with MUGI behind it, 7 with KCipher-2 at its start; seven parks were made, and 3, from line 0,
+-- and 7, from line 2, are held
 abbrev pub eight : Seen
 eight =
     record {
       lines =
           idleLine ∷ idleLine ∷ openLine 1 5 cells ∷ openLine 2 16 blank ∷ openLine 3 last blank ∷ openLine 6 end blank ∷ idleLine
           ∷ openLine 5 0 blank ∷ [];
+      parks = record { count = 7; held = 3 ∷ 0 ∷ 7 ∷ zeros 5 };
     }
 
 -- that card with line i another
 abbrev with : ℕ → Line → Seen
-with i l = record { lines = set (eight .lines) i l }
+with i l = record { lines = set (eight .lines) i l; parks = eight .parks }
+
+-- and with other parks
+abbrev after : Parks → Seen
+after p = record { lines = eight .lines; parks = p }
+
+-- and with line 7 another and other parks
+abbrev held : Line → (count : ℕ) → List ℕ → Seen
+held l k ns = record { lines = set (eight .lines) 7 l; parks = record { count = k; held = ns } }
 
 -- ---- commands in bytes
 
@@ -77,9 +88,20 @@ abbrev spelled : (words byte : ℕ) → List ℕ
 spelled zero b = []
 spelled (suc k) b = 0 ∷ 0 ∷ 0 ∷ b ∷ spelled k b
 
--- an image: the cipher, the position's fifth byte from its end and its last, and the state
+-- an image: the cipher, the position's fifth byte from its end and its last, the park's number, and the state
+abbrev image : (cipher high low number : ℕ) → List ℕ → List ℕ
+image c h l k w = c ∷ 0 ∷ 0 ∷ 0 ∷ h ∷ 0 ∷ 0 ∷ 0 ∷ l ∷ 0 ∷ 0 ∷ 0 ∷ k ∷ w
+
+-- with a number that is held
 abbrev resume : (i cipher high low : ℕ) → List ℕ → List ℕ
-resume i c h l w = 5 ∷ i ∷ c ∷ 0 ∷ 0 ∷ 0 ∷ h ∷ 0 ∷ 0 ∷ 0 ∷ l ∷ w
+resume i c h l w = 5 ∷ i ∷ image c h l 3 w
+
+-- that of line 7 with number k
+abbrev imageOf7 : ℕ → List ℕ
+imageOf7 k = image 5 0 0 k (spelled stateWords 0)
+
+abbrev bring : (i number : ℕ) → List ℕ
+bring i k = 5 ∷ i ∷ imageOf7 k
 
 -- ---- a call, and what came of it
 
@@ -97,6 +119,17 @@ modes c a = map (λ (l : Line). l .mode) (cardStep c a .card .lines)
 
 unfoldable pub positions : Seen → Call → List ℕ
 positions c a = map (λ (l : Line). l .n) (cardStep c a .card .lines)
+
+-- how many parks were made, and the numbers held; after it
+abbrev numbersOn : Seen → List ℕ
+numbersOn c = c .parks .count ∷ c .parks .held
+
+unfoldable pub numbers : Seen → Call → List ℕ
+numbers c a = numbersOn (cardStep c a .card)
+
+-- the bytes that it wrote
+unfoldable pub writes : Seen → Call → List ℕ
+writes c a = cardStep c a .outcome .written
 
 -- a refusal: its number and three zeros
 abbrev refusal : ℕ → List ℕ
@@ -167,7 +200,7 @@ images =
     answer eight (lent (resume 0 0 0 0 (spelled stateWords 0)) 0 0 0) gives refusal 8
     ∷ answer eight (lent (resume 0 7 0 0 (spelled stateWords 0)) 0 0 0) gives refusal 8
     ∷ answer eight (lent (resume 0 6 16 1 (spelled stateWords 0)) 0 0 0) gives refusal 8
-    ∷ answer eight (lent (resume 0 6 16 0 (spelled stateWords 0)) 0 0 0) gives accepted 163 0 0
+    ∷ answer eight (lent (resume 0 6 16 0 (spelled stateWords 0)) 0 0 0) gives accepted resumeLength 0 0
     -- a cell of 0, and one of 2^31
     ∷ answer eight (lent (resume 0 1 0 5 (spelled stateWords 0)) 0 0 0) gives refusal 8
     ∷ answer eight (lent (resume 0 1 0 5 (128 ∷ 0 ∷ 0 ∷ 1 ∷ spelled 15 1 ++ spelled 22 0)) 0 0 0) gives refusal 8
@@ -198,6 +231,60 @@ crypts =
     ∷ positions eight (lent (park 2) 0 0 imageLength) gives (0 ∷ 0 ∷ 0 ∷ 16 ∷ last ∷ end ∷ 0 ∷ 0 ∷ [])
     ∷ []
 
+-- 14 and 15, and what parks and resumes leave
+
+abbrev parkOf7 : Call
+parkOf7 = lent (park 7) 0 0 imageLength
+
+-- after a park of line 7; after it took up the call of number 3; after it was parked again; after it took up that call
+abbrev parkedOnce : Seen
+parkedOnce = held idleLine 8 (3 ∷ 0 ∷ 7 ∷ zeros 4 ++ (8 ∷ []))
+
+abbrev takenUp : Seen
+takenUp = held (openLine 5 0 blank) 8 (0 ∷ 0 ∷ 7 ∷ zeros 4 ++ (8 ∷ []))
+
+abbrev parkedTwice : Seen
+parkedTwice = held idleLine 9 (0 ∷ 0 ∷ 7 ∷ zeros 4 ++ (9 ∷ []))
+
+abbrev takenTwice : Seen
+takenTwice = held (openLine 5 0 blank) 9 (0 ∷ 0 ∷ 7 ∷ zeros 5)
+
+unfoldable pub parks : List Step
+parks =
+    -- the first park has number 1
+    numbers (after freshParks) parkOf7 gives (1 ∷ zeros 7 ++ (1 ∷ []))
+    ∷ writes (after freshParks) parkOf7 gives imageOf7 1
+    -- a later one replaces the number of its line, and no other
+    ∷ numbers eight (lent (park 2) 0 0 imageLength) gives (8 ∷ 3 ∷ 0 ∷ 8 ∷ zeros 5)
+    -- as many parks as 32 bits count; 6 before 15 before 12
+    ∷ answer (after (record { count = lastPark - 1; held = zeros 8 })) parkOf7 gives accepted 2 0 imageLength
+    ∷ answer (after (record { count = lastPark; held = zeros 8 })) (lent (park 7) 0 0 0) gives refusal 15
+    ∷ answer (after (record { count = lastPark; held = zeros 8 })) (lent (park 6) 0 0 0) gives refusal 6
+    -- number 0, one that was replaced or taken up, one above the count
+    ∷ answer eight (lent (bring 0 0) 0 0 0) gives refusal 14
+    ∷ answer eight (lent (bring 0 6) 0 0 0) gives refusal 14
+    ∷ answer eight (lent (bring 0 8) 0 0 0) gives refusal 14
+    -- 8 before 14
+    ∷ answer eight (lent (5 ∷ 0 ∷ image 7 0 0 8 (spelled stateWords 0)) 0 0 0) gives refusal 8
+    -- a number equal to the count, on whichever line; it is held no more
+    ∷ answer eight (lent (bring 6 7) 0 0 0) gives accepted resumeLength 0 0
+    ∷ numbers eight (lent (bring 6 7) 0 0 0) gives (7 ∷ 3 ∷ zeros 7)
+    -- a close, an open, a crypt and refusals, of a park too, leave the numbers
+    ∷ numbers eight (lent (close 2) 0 0 0) gives numbersOn eight
+    ∷ numbers eight (lent (own 0 3 16 16) 0 0 0) gives numbersOn eight
+    ∷ numbers eight (lent (crypt 2 7) 0 8 9) gives numbersOn eight
+    ∷ numbers eight (lent (park 7) 0 0 (imageLength - 1)) gives numbersOn eight
+    ∷ numbers eight (lent (bring 0 6) 0 0 0) gives numbersOn eight
+    -- park, resume, park, then a resume of the first park, of the second, and again
+    ∷ numbers eight parkOf7 gives numbersOn parkedOnce
+    ∷ numbers parkedOnce (lent (bring 7 3) 0 0 0) gives numbersOn takenUp
+    ∷ numbers takenUp parkOf7 gives numbersOn parkedTwice
+    ∷ answer parkedTwice (lent (bring 7 8) 0 0 0) gives refusal 14
+    ∷ answer parkedTwice (lent (bring 7 9) 0 0 0) gives accepted resumeLength 0 0
+    ∷ numbers parkedTwice (lent (bring 7 9) 0 0 0) gives numbersOn takenTwice
+    ∷ answer takenTwice (lent (bring 1 9) 0 0 0) gives refusal 14
+    ∷ []
+
 -- 255 before all others, whichever line it is
 unfoldable pub damage : List Step
 damage =
@@ -209,7 +296,10 @@ damage =
     ∷ answer (with 7 (openLine 5 (end + 1) blank)) (lent (close 2) 0 0 0) gives refusal 255
     ∷ answer (with 3 (openLine 1 0 blank)) (lent (close 2) 0 0 0) gives refusal 255
     ∷ answer (with 3 (openLine 5 end blank)) (lent (close 2) 0 0 0) gives accepted 2 0 0
+    -- a held number above the count, and one held twice
+    ∷ answer (after (record { count = 6; held = eight .parks .held })) (lent [] 0 0 0) gives refusal 255
+    ∷ answer (after (record { count = 7; held = 3 ∷ 0 ∷ 7 ∷ zeros 4 ++ (3 ∷ []) })) (lent (close 2) 0 0 0) gives refusal 255
     ∷ []
 
 unfoldable pub calls : List Step
-calls = reads ++ (openness ++ (opens ++ (images ++ (crypts ++ damage))))
+calls = reads ++ (openness ++ (opens ++ (images ++ (crypts ++ (parks ++ damage)))))

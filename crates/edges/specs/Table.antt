@@ -6,7 +6,8 @@ use lib.ListN.{replicate}
 use Rattle.command.specs.declared.Cipher.the-variants.{Zuc}
 use Rattle.command.specs.declared.Command.the-variants.{Tray, Crypt, Park}
 use Rattle.cases.specs.Table.{Row, _is_}
-use Rattle.machine.specs.Machine.{Public, Effect, refuse, put, crypt, park, decided, noView}
+use Rattle.machine.specs.Machine.{Public, Effect, refuse, put, crypt, park, resume, decided, noView}
+use Rattle.machine.specs.Parks.{freshParks}
 
 -- a refusal's number, and 0 of an accepted command
 abbrev codeOf : Effect → ℕ
@@ -14,16 +15,17 @@ codeOf (refuse k) = k
 codeOf (put i l size) = 0
 codeOf (crypt i n size) = 0
 codeOf (park i size) = 0
+codeOf (resume i l k size) = 0
 
 abbrev zerosOf : ℕ → List ℕ
 zerosOf n = replicate n 0
 
 -- line 0 open at position n, and idle
 abbrev openAt : ℕ → Public
-openAt n = record { lines = record { mode = 1; cipher = 1; pos = n } ∷ [] }
+openAt n = record { lines = record { mode = 1; cipher = 1; pos = n } ∷ []; parks = freshParks }
 
 abbrev allIdle : Public
-allIdle = record { lines = noView ∷ [] }
+allIdle = record { lines = noView ∷ []; parks = freshParks }
 
 -- count bytes at position n, with so many bytes of data and of out
 unfoldable pub crypting : ℕ → ℕ → ℕ → ℕ → ℕ
@@ -52,8 +54,8 @@ table =
     ∷ (crypting 0 5 5 4 is 12)
     ∷ (crypting 0 5 5 5 is 0)
     -- room for an image
-    ∷ (parking 160 is 12)
-    ∷ (parking 161 is 0)
+    ∷ (parking 164 is 12)
+    ∷ (parking 165 is 0)
     -- trays
     ∷ (opening 8192 255 is 0)
     ∷ (opening 8224 0 is 9)

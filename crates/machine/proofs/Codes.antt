@@ -4,7 +4,7 @@ use mathlib.Core.Path.{_≡_, subst}
 use mathlib.Core.Bool.{Bool, true, false}
 use mathlib.Core.List.{List, []}
 use Prim.Native.Nat.{ℕ, _≤_}
-use lib.Dec.{T, lit≤}
+use lib.Dec.{lit≤}
 use native.Mathlib.Omega.{arith}
 use Rattle.words.specs.Tests.{pick}
 use Rattle.command.specs.declared.Command.{Command}
@@ -12,9 +12,9 @@ use Rattle.command.specs.declared.Command.the-variants.{Tray, Own, Crypt, Park,
 use Rattle.command.specs.declared.Decoded.{Decoded}
 use Rattle.command.specs.declared.Decoded.the-variants.{Run, Refused}
 use Rattle.command.specs.Decode.{decodeOf}
-use Rattle.command.proofs.Rows.{isNumber, above, below}
-use Rattle.command.proofs.Reading.{ReadIn, refused-in, run-in, read-in}
-use Rattle.machine.specs.Machine.{MLine, Machine, Public, Seen, Shown, Call, Effect, refuse, put, crypt, park, effectOf, ofDecoded, decide, public, answer, perform, step, shows, back, lineCount, allOk, cardStep, lastNumber}
+use Rattle.command.proofs.Rows.{above, below}
+use Rattle.command.proofs.Reading.{ReadIn, refused-in, read-in}
+use Rattle.machine.specs.Machine.{Machine, Seen, Shown, Call, Effect, effectOf, ofDecoded, decide, public, answer, perform, step, shows, back, cardOk, cardStep, lastNumber}
 use Rattle.machine.proofs.Rows.{decided-by}
 
 -- a command that is not read is not answered with 0
@@ -47,7 +47,7 @@ module _ (m : Machine) (a : Call) where
 -- What is so of 255 with the card as it was, and of the machine's step, is so of the card's.
 pub of-card : (P : Shown → Type 0) (c : Seen) (a : Call) → P (record { outcome = answer 255 0 0 []; card = c }) → P (shows (step (back c) a)) → P (cardStep c a)
 unfolding cardStep
-of-card P c a damaged whole = by (allOk lineCount (c .lines))
+of-card P c a damaged whole = by (cardOk c)
   where
     by : (b : Bool) → P (pick b (shows (step (back c) a)) (record { outcome = answer 255 0 0 []; card = c }))
     by true = whole

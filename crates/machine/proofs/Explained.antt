@@ -1,13 +1,13 @@
 -- What a call did, as its log has it by what was lent and answered, is what the machine was decided to do: the written bytes stand first in out, and a refusal has a number that is not 0.
 -- Assumes nothing.
 use mathlib.Core.Path.{_≡_, refl, sym, subst}
-use mathlib.Core.Bool.{Bool, true, false}
+use mathlib.Core.Bool.{true, false}
 use mathlib.Core.List.{List, _++_}
 use Prim.Native.Nat.{ℕ, _<_, _≤_}
 use lib.Dec.{eqb}
 use lib.ListN.{length, getD, take, drop}
 use lib.Seq.{take-at}
-use borrow.Author.Tests.{ltb-false}
+use borrow.Author.Tests.{ltb-false, not-false}
 use Rattle.words.specs.Tests.{pick}
 use Rattle.command.specs.declared.Command.{Command}
 use Rattle.command.specs.declared.Command.the-variants.{Tray, Own, Crypt, Park, Resume, Close}
@@ -16,7 +16,8 @@ use Rattle.command.specs.declared.Decoded.the-variants.{Run, Refused}
 use Rattle.command.specs.Decode.{decodeOf, lineOf}
 use Rattle.command.proofs.Rows.{not-zero}
 use Rattle.command.proofs.Reading.{ReadIn, refused-in, run-in, Has, read-in}
-use Rattle.machine.specs.Machine.{Machine, lineAt, idle, shown, based, opened, enciphered, imageOf, imageLine, Call, Effect, refuse, put, crypt, park, public, effectOf, ofDecoded, decide, perform, step, shows}
+use Rattle.machine.specs.Machine.{Machine, lineAt, idle, shown, based, opened, enciphered, imageOf, imageLine, imageNumber, Call, Effect, refuse, put, crypt, park, resume, public, effectOf, ofDecoded, decide, perform, step, shows}
+use Rattle.machine.specs.Parks.{noMore, numberNow, holds}
 use Rattle.machine.specs.Logs.{Made, madeOf, Did, did-nothing, did-open, did-crypt, did-park, did-resume, did-close, doneBy, did}
 use Rattle.machine.proofs.Rows.{Passed, passed, decided-by}
 use Rattle.machine.proofs.Simulation.{is-open}
@@ -31,8 +32,9 @@ pub data Explained (m : Machine) (a : Call) : Effect → Did → Type 0 where
   was-open : {j size c : ℕ} {key iv : List ℕ} → Names a j → Explained m a (put j (opened c key iv) size) (did-open j c key iv)
   was-crypt : {j n size : ℕ} → Names a j → n ≤ length (a .text)
       → Explained m a (crypt j n size) (did-crypt j (take n (a .text)) (enciphered (lineAt m j) (take n (a .text))))
-  was-park : {j size : ℕ} → Names a j → lineAt m j .mode ≡ 1 → Explained m a (park j size) (did-park j (imageOf (shown (lineAt m j))))
-  was-resume : {j size : ℕ} {image : List ℕ} → Names a j → Explained m a (put j (based (imageLine image)) size) (did-resume j image)
+  was-park : {j size : ℕ} → Names a j → lineAt m j .mode ≡ 1 → noMore (m .parks) ≡ false → Explained m a (park j size) (did-park j (imageOf (numberNow (m .parks)) (shown (lineAt m j))))
+  was-resume : {j size : ℕ} {image : List ℕ} → Names a j → holds (m .parks) (imageNumber image) ≡ true
+      → Explained m a (resume j (based (imageLine image)) (imageNumber image) size) (did-resume j image)
   was-close : {j size : ℕ} → Names a j → Explained m a (put j idle size) (did-close j)
 
 module _ (m : Machine) (a : Call) where
@@ -65,10 +67,10 @@ module _ (m : Machine) (a : Call) where
   explains-effect (Park i) h p =
       record {
         is =
-            subst (λ (y : List ℕ). Explained m a (effectOf (Park i) a) (did-park i y)) (sym (first (imageOf (shown (lineAt m i)))))
-            (was-park (names (Park i) h) (is-open m a i (passed 6 p)));
+            subst (λ (y : List ℕ). Explained m a (effectOf (Park i) a) (did-park i y)) (sym (first (imageOf (numberNow (m .parks)) (shown (lineAt m i)))))
+            (was-park (names (Park i) h) (is-open m a i (passed 6 p)) (passed 15 p));
       }
-  explains-effect (Resume i) h p = record { is = was-resume (names (Resume i) h) }
+  explains-effect (Resume i) h p = record { is = was-resume (names (Resume i) h) (not-false _ (passed 14 p)) }
   explains-effect (Close i) h p = record { is = was-close (names (Close i) h) }
 
   explains-decoded : (d : Decoded) → ReadIn (a .command) d → Explains d (ofDecoded d (public m) a)

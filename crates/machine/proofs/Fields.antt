@@ -5,15 +5,15 @@ use mathlib.Core.List.{List, [], _∷_, _++_, append-assoc}
 use Prim.Native.Nat.{ℕ, zero, suc, _+_, _*_, _/_, _%_, _^_, _<_}
 use native.Mathlib.Nat.{mod-eq-of-lt, div-div-eq-div-mul, add-zero}
 use native.Mathlib.Omega.{arith}
-use lib.ListN.{length, getD, drop, replicate, length-append}
+use lib.ListN.{length, getD, replicate, length-append}
 use lib.Seq.{getD-append-add}
 use lib.Pow.{mod-pow-add}
 use Rattle.ciphers.specs.States.{stateWords}
-use Rattle.words.specs.Lists.{All, none as no-words, more as more-words, Word, tab}
+use Rattle.words.specs.Lists.{All, more as more-words, Word, tab}
 use Rattle.words.specs.Word.{word}
 use Rattle.words.specs.Strings.{wordAt, bytesOf}
 use Rattle.machine.specs.Fields.{field, numberAt, written, fieldsAt, spelt}
-use Rattle.machine.specs.Machine.{Line, imageWidths, imageOf, fieldsLine, imageLine}
+use Rattle.machine.specs.Machine.{Line, imageWidths, imageOf, fieldsLine, imageLine, imageNumber}
 
 -- ---- any widths
 
@@ -123,17 +123,21 @@ pub image-position : (img : List ℕ) → imageLine img .n ≡ wordAt img 1 * 2 
 unfolding imageLine
 image-position img = long-number img 1
 
-pub image-state : (img : List ℕ) → imageLine img .words ≡ tab stateWords (λ k. wordAt img (9 + 4 * k))
+pub image-state : (img : List ℕ) → imageLine img .words ≡ tab stateWords (λ k. wordAt img (13 + 4 * k))
 unfolding imageLine
-image-state img = words-read stateWords img 9
+image-state img = words-read stateWords img 13
 
-pub image-spelt : (l : Line) → l .cipher < 2 ^ 8 → length (l .words) ≡ stateWords → imageOf l ≡ l .cipher ∷ spelt (l .n / 2 ^ 32 ∷ l .n % 2 ^ 32 ∷ l .words)
+pub image-number : (img : List ℕ) → imageNumber img ≡ wordAt img 9
+unfolding imageNumber
+image-number img = word-number img 9
+
+pub image-spelt : (k : ℕ) (l : Line) → l .cipher < 2 ^ 8 → length (l .words) ≡ stateWords → imageOf k l ≡ l .cipher ∷ spelt (l .n / 2 ^ 32 ∷ l .n % 2 ^ 32 ∷ k ∷ l .words)
 unfolding imageOf
-image-spelt l h e =
+image-spelt k l h e =
     let c : l .cipher / 2 ^ 0 % 2 ^ 8 ≡ l .cipher = omega (arith, h) in
     ap₂ _∷_ c
-    (ap₂ _++_ (long-field (l .n)) (words-written stateWords (l .words) e)
-    ∙ append-assoc (bytesOf (l .n / 2 ^ 32)) (bytesOf (l .n % 2 ^ 32)) (spelt (l .words)))
+    (ap₂ _++_ (long-field (l .n)) (ap₂ _++_ (word-field k) (words-written stateWords (l .words) e))
+    ∙ append-assoc (bytesOf (l .n / 2 ^ 32)) (bytesOf (l .n % 2 ^ 32)) (spelt (k ∷ l .words)))
 
 -- ---- an image says exactly its line
 
@@ -151,8 +155,18 @@ pub record Sized (l : Line) : Type 0 where
   pub full : length (l .words) ≡ stateWords
   pub words : All Word (l .words)
 
-pub image-back : (l : Line) → Sized l → imageLine (imageOf l) ≡ l
-unfolding imageLine imageOf
-image-back l s =
-    ap fieldsLine (fields-back {ws = imageWidths} {xs = l .cipher ∷ l .n ∷ l .words} (more (s .cipher) (more (s .pos) (words-fit stateWords (l .words) (s .full) (s .words)))))
+image-fields : (k : ℕ) → Word k → (l : Line) → Sized l → fieldsAt imageWidths (imageOf k l) 0 ≡ l .cipher ∷ l .n ∷ k ∷ l .words
+unfolding imageOf
+image-fields k h l s =
+    fields-back {ws = imageWidths} {xs = l .cipher ∷ l .n ∷ k ∷ l .words} (more (s .cipher) (more (s .pos) (more h (words-fit stateWords (l .words) (s .full) (s .words)))))
+
+-- and the number of its park
+pub number-back : (k : ℕ) → Word k → (l : Line) → Sized l → imageNumber (imageOf k l) ≡ k
+unfolding imageNumber
+number-back k h l s = ap (λ (x : List ℕ). getD x 2 0) (image-fields k h l s)
+
+pub image-back : (k : ℕ) → Word k → (l : Line) → Sized l → imageLine (imageOf k l) ≡ l
+unfolding imageLine
+image-back k h l s =
+    ap fieldsLine (image-fields k h l s)
     ∙ (λ j. record { mode = sym (s .up) j; cipher = l .cipher; n = l .n; words = l .words })

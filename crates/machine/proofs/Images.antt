@@ -5,6 +5,7 @@ use mathlib.Core.List.{List}
 use Prim.Native.Nat.{ℕ, _/_, _≤_}
 use Rattle.keystream.proofs.Laws.{stateAt-rebase, byteAt-rebase, div-mono}
 use Rattle.machine.specs.Machine.{Line, MLine, genAt, unitAt, stateOf, byteOf, shown, based, imageOf, imageLine}
+use Rattle.words.specs.Lists.{Word}
 use Rattle.machine.specs.OneStream.{GoesOn}
 use Rattle.machine.proofs.Fields.{Sized, image-back}
 use Rattle.machine.proofs.Lines.{unit-pos}
@@ -22,6 +23,6 @@ anew-goes-on l b =
     }
 
 -- and so does the line of its image
-pub image-goes-on : (l : MLine) → l .from ≤ unitAt l → Sized (shown l) → (image : List ℕ) → image ≡ imageOf (shown l) → GoesOn l (based (imageLine image))
-image-goes-on l b s image e =
-    subst (λ (x : Line). GoesOn l (based x)) (sym (ap imageLine e ∙ image-back (shown l) s)) (anew-goes-on l b)
+pub image-goes-on : (l : MLine) → l .from ≤ unitAt l → Sized (shown l) → (k : ℕ) → Word k → (image : List ℕ) → image ≡ imageOf k (shown l) → GoesOn l (based (imageLine image))
+image-goes-on l b s k h image e =
+    subst (λ (x : Line). GoesOn l (based x)) (sym (ap imageLine e ∙ image-back k h (shown l) s)) (anew-goes-on l b)

@@ -1,4 +1,5 @@
 pub mod Fields
+pub mod Parks
 pub mod Lines
 pub mod Rows
 pub mod Simulation
@@ -7,6 +8,7 @@ pub mod Images
 pub mod Explained
 pub mod Streams
 pub mod OneStream
+pub mod Parking
 pub mod Trunk
 pub mod Codes
 pub mod Deciphers

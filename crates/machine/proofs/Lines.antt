@@ -53,7 +53,7 @@ state-fit l i h = iter-keeps (Fit (cipherAt (l .cipher))) (genAt l .next) (sound
 
 -- ---- what numbers 8 and 255 ask
 
-open-is : (l : Line) → l .mode ≡ 1 → lineOk l ≡ openOk l
+pub open-is : (l : Line) → l .mode ≡ 1 → lineOk l ≡ openOk l
 unfolding lineOk
 open-is l e = ap (λ (x : ℕ). pick (eqb x 0) (idleOk l) (both (eqb x 1) (openOk l))) e
 
@@ -81,7 +81,7 @@ opened-good c key iv h hk hv = good-open {l = opened c key iv} refl h (omega ari
 
 -- the words of an image of bytes
 image-words : (img : List ℕ) → All Byte img → All Word (imageLine img .words)
-image-words img h = subst (All Word) (sym (image-state img)) (all-tab 38 (λ i. wordAt img (9 + 4 * i)) (λ i q. wordAt-word h (9 + 4 * i)))
+image-words img h = subst (All Word) (sym (image-state img)) (all-tab 38 (λ i. wordAt img (13 + 4 * i)) (λ i q. wordAt-word h (13 + 4 * i)))
 
 pub resumed-good : (command : List ℕ) → All Byte command → openOk (imageLine (imageIn command)) ≡ true → Good (based (imageLine (imageIn command)))
 unfolding openOk based unitAt imageLine

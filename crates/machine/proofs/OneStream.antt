@@ -1,9 +1,9 @@
 -- Demand 3 of every list that is the machine's: what holds of the lines and of their logs is carried along the list call by call, and each claim is read off at its place in the list.
 -- Assumes nothing.
-use mathlib.Core.Path.{_≡_, refl, ap, ap₂, sym, _∙_, subst}
-use mathlib.Core.Bool.{Bool}
+use mathlib.Core.Path.{_≡_, refl, ap, sym, _∙_, subst}
+use mathlib.Core.Bool.{Bool, true, false}
 use mathlib.Core.List.{List, [], _∷_, _++_, append-assoc}
-use Prim.Native.Nat.{ℕ, zero, suc, _+_, _-_, _/_, _≤_}
+use Prim.Native.Nat.{ℕ, zero, suc, _+_, _-_, _/_, _<_, _≤_}
 use native.Mathlib.Nat.{div-eq-of-lt}
 use native.Mathlib.Omega.{arith}
 use lib.Dec.{eqb, leb, lit≤}
@@ -15,11 +15,13 @@ use Rattle.words.specs.Tests.{pick}
 use Rattle.keystream.specs.Stream.{stateAt}
 use Rattle.ciphers.specs.Table.{cipherAt}
 use Rattle.ciphers.proofs.Tests.{both-right}
-use Rattle.machine.specs.Machine.{Line, MLine, Machine, Seen, lineAt, idle, genOf, unitAt, stateOf, moved, shown, based, opened, limit, lastNumber, imageOf, imageLine, Call, Effect, refuse, put, crypt, park, public, decide, perform, step, seen, shows, freshMachine, freshCard}
+use Rattle.machine.specs.Machine.{Line, MLine, Machine, Seen, lineAt, idle, genOf, unitAt, stateOf, moved, shown, based, opened, limit, lastNumber, imageOf, imageLine, imageNumber, Call, Effect, refuse, put, crypt, park, resume, public, decide, perform, step, seen, shows, freshMachine, freshCard}
+use Rattle.machine.specs.Parks.{Parks, freshParks, noMore, numberNow, parked, holds, taken}
 use Rattle.machine.specs.Logs.{Made, madeOf, machineRun, callsOf, cardAfter, lineOn, Did, did-nothing, did-open, did-crypt, did-park, did-resume, did-close, did, Log, begun, joined, noted, logAfter, logOf, standing}
 use Rattle.machine.specs.OneStream.{AllBytes, Streamed, GoesOn, On, Kept, Stands, OneStream, Takes, Counted}
 use Rattle.machine.proofs.Lines.{unit-pos, Good, good-idle, good-open, good-behind, shown-idle, shown-based, state-fit}
-use Rattle.machine.proofs.Simulation.{AllGood, good-get, step-good, fresh-good}
+use Rattle.machine.proofs.Simulation.{GoodCard, good-get, step-good, fresh-good}
+use Rattle.machine.proofs.Parks.{number-word, Spent, spent-refused, taken-spent, taken-keeps, parked-keeps}
 use Rattle.machine.proofs.Fields.{Sized}
 use Rattle.machine.proofs.Images.{image-goes-on}
 use Rattle.machine.proofs.Explained.{Names, Explained, was-refused, was-open, was-crypt, was-park, was-resume, was-close, explained}
@@ -32,7 +34,7 @@ abbrev pub Runs : Machine → List Made → Type 0
 Runs m [] = Unit {0}
 Runs m (x ∷ xs) = (x ≡ madeOf (x .call) (shows (step m (x .call)))) × Runs (step m (x .call) .machine) xs
 
-abbrev machineAfter : Machine → List Made → Machine
+abbrev pub machineAfter : Machine → List Made → Machine
 machineAfter m [] = m
 machineAfter m (x ∷ xs) = machineAfter (step m (x .call) .machine) xs
 
@@ -73,8 +75,8 @@ on-its-line i g h = ap (λ (b : Bool). pick b g h) (eq-eqb i i refl)
 
 -- ---- the invariant
 
-record Reached (m : Machine) (c : Seen) (g : ℕ → Log) : Type 0 where
-  pub good : AllGood (m .lines)
+pub record Reached (m : Machine) (c : Seen) (g : ℕ → Log) : Type 0 where
+  pub good : GoodCard m
   pub eight : length (m .lines) ≡ 8
   pub card : c ≡ seen m
   pub held : (i : ℕ) → Held (lineAt m i) (g i)
@@ -84,9 +86,10 @@ perform-eight m text (refuse k) = refl
 perform-eight m text (put i l size) = length-set (m .lines) i l
 perform-eight m text (crypt i n size) = length-set (m .lines) i _
 perform-eight m text (park i size) = length-set (m .lines) i idle
+perform-eight m text (resume i l k size) = length-set (m .lines) i l
 
 -- what a call of the list did, from the machine at its place
-explained-at : (m : Machine) (x : Made) → x ≡ madeOf (x .call) (shows (step m (x .call))) → Explained m (x .call) (decide (public m) (x .call)) (did x)
+pub explained-at : (m : Machine) (x : Made) → x ≡ madeOf (x .call) (shows (step m (x .call))) → Explained m (x .call) (decide (public m) (x .call)) (did x)
 explained-at m x e = subst (λ (y : Made). Explained m (x .call) (decide (public m) (x .call)) (did y)) (sym e) (explained m (x .call))
 
 reached : (xs : List Made) (m : Machine) (c : Seen) (g : ℕ → Log) → Reached m c g → Runs m xs → AllBytes xs →
@@ -104,7 +107,7 @@ reached (x ∷ xs) m c g r h b =
     (h .1) (b .1)
 
 pub fresh-seen : seen freshMachine ≡ freshCard
-fresh-seen = λ i. record { lines = replicate 8 (shown-idle i) }
+fresh-seen = λ i. record { lines = replicate 8 (shown-idle i); parks = freshParks }
 
 reached-fresh : Reached freshMachine freshCard (λ i. begun idle)
 reached-fresh = record { good = fresh-good; eight = refl; card = sym fresh-seen; held = λ i. subst (λ (l : MLine). Held l (begun idle)) (sym (none 8 i)) (begun-held idle) }
@@ -126,17 +129,25 @@ sized l (good-open m c p b f) e =
 
 -- ---- one call, by what it did
 
-record ParkWrote (m : Machine) (i : ℕ) (image : List ℕ) : Type 0 where
+pub record ParkWrote (m m' : Machine) (i : ℕ) (image : List ℕ) : Type 0 where
+  pub below : i < 8
+  pub counted : m' .parks ≡ parked (m .parks) i
   pub up : lineAt m i .mode ≡ 1
-  pub is : image ≡ imageOf (shown (lineAt m i))
+  pub left : noMore (m .parks) ≡ false
+  pub is : image ≡ imageOf (numberNow (m .parks)) (shown (lineAt m i))
 
--- what a call did says of the line that it names, after the call; a park, of what it wrote
-abbrev Tells : Machine → Machine → Did → Type 0
+pub record ResumeTook (m m' : Machine) (i : ℕ) (image : List ℕ) : Type 0 where
+  pub line : lineAt m' i ≡ based (imageLine image)
+  pub held : holds (m .parks) (imageNumber image) ≡ true
+  pub took : m' .parks ≡ taken (m .parks) (imageNumber image)
+
+-- what a call did says of the line that it names, after the call; a park, of what it wrote; a resume, of the number that it took up
+abbrev pub Tells : Machine → Machine → Did → Type 0
 Tells m m' did-nothing = Unit {0}
 Tells m m' (did-open i c key iv) = lineAt m' i ≡ opened c key iv
 Tells m m' (did-crypt i input output) = lineAt m' i ≡ moved (lineAt m i) (length input)
-Tells m m' (did-park i image) = ParkWrote m i image
-Tells m m' (did-resume i image) = lineAt m' i ≡ based (imageLine image)
+Tells m m' (did-park i image) = ParkWrote m m' i image
+Tells m m' (did-resume i image) = ResumeTook m m' i image
 Tells m m' (did-close i) = lineAt m' i ≡ idle
 
 module _ (m : Machine) (eight : length (m .lines) ≡ 8) (a : Call) where
@@ -147,8 +158,8 @@ module _ (m : Machine) (eight : length (m .lines) ≡ 8) (a : Call) where
   tells (refuse k) did-nothing was-refused = tt
   tells (put j _ size) (did-open _ _ _ _) (was-open n) = set-at j _ n
   tells (crypt j k size) (did-crypt _ _ _) (was-crypt n h) = set-at j _ n ∙ ap (moved (lineAt m j)) (sym (length-take-le k (a .text) h))
-  tells (park j size) (did-park _ _) (was-park n h) = record { up = h; is = refl }
-  tells (put j _ size) (did-resume _ _) (was-resume n) = set-at j _ n
+  tells (park j size) (did-park _ _) (was-park n h z) = record { below = n .below; counted = refl; up = h; left = z; is = refl }
+  tells (resume j _ k size) (did-resume _ _) (was-resume n h) = record { line = set-at j _ n; held = h; took = refl }
   tells (put j _ size) (did-close _) (was-close n) = set-at j idle n
 
   -- by what it did, known by an equation
@@ -181,37 +192,94 @@ module _ (m : Machine) (a : Call) (i : ℕ) where
   other-line (refuse k) did-nothing was-refused f = refl
   other-line (put j _ size) (did-open _ _ _ _) (was-open n) f = kept j _ n (f refl)
   other-line (crypt j k size) (did-crypt _ _ _) (was-crypt n h) f = kept j _ n (f refl)
-  other-line (park j size) (did-park _ _) (was-park n h) f = kept j idle n (f refl)
-  other-line (put j _ size) (did-resume _ _) (was-resume n) f = kept j _ n (f refl)
+  other-line (park j size) (did-park _ _) (was-park n h z) f = kept j idle n (f refl)
+  other-line (resume j _ k size) (did-resume _ _) (was-resume n h) f = kept j _ n (f refl)
   other-line (put j _ size) (did-close _) (was-close n) f = kept j idle n (f refl)
 
   other-log : (e : Effect) (d : Did) → Explained m a e d → Apart e → (g : Log) → noted i g d ≡ g
   other-log (refuse k) did-nothing was-refused f g = refl
   other-log (put j _ size) (did-open _ _ _ _) (was-open n) f g = no-note j _ g n (f refl)
   other-log (crypt j k size) (did-crypt _ _ _) (was-crypt n h) f g = no-note j _ g n (f refl)
-  other-log (park j size) (did-park _ _) (was-park n h) f g = no-note j _ g n (f refl)
-  other-log (put j _ size) (did-resume _ _) (was-resume n) f g = no-note j _ g n (f refl)
+  other-log (park j size) (did-park _ _) (was-park n h z) f g = no-note j _ g n (f refl)
+  other-log (resume j _ k size) (did-resume _ _) (was-resume n h) f g = no-note j _ g n (f refl)
   other-log (put j _ size) (did-close _) (was-close n) f g = no-note j _ g n (f refl)
+
+-- ---- two calls of a list
+
+-- a call of a part of a list
+pub stands-in : {xs before sofar : List Made} {p x : Made} → Stands sofar x xs → Stands before p sofar → Stands before p xs
+stands-in {before = before} {p = p} {x = x} s t =
+    record {
+      after = t .after ++ (x ∷ s .after);
+      is = s .is ∙ ap (λ (l : List Made). l ++ (x ∷ s .after)) (t .is) ∙ append-assoc before (p ∷ t .after) (x ∷ s .after);
+    }
+
+-- the machine after a call
+abbrev pub machineNext : List Made → Made → Machine
+machineNext before x = step (machineAfter freshMachine before) (x .call) .machine
+
+machine-append : (m : Machine) (xs ys : List Made) → machineAfter m (xs ++ ys) ≡ machineAfter (machineAfter m xs) ys
+machine-append m [] ys = refl
+machine-append m (x ∷ xs) ys = machine-append (step m (x .call) .machine) xs ys
+
+pub later : {before sofar : List Made} {p : Made} → (t : Stands before p sofar) → machineAfter freshMachine sofar ≡ machineAfter (machineNext before p) (t .after)
+later {before = before} {p = p} t = ap (machineAfter freshMachine) (t .is) ∙ machine-append freshMachine before (p ∷ t .after)
+
+-- what every park and every resume keeps of the parks is kept from one call to another
+module _ (P : Parks → Type 0) (by-park : (p : Parks) (i : ℕ) → P p → P (parked p i)) (by-resume : (p : Parks) (k : ℕ) → P p → P (taken p k)) where
+  parks-step : (m : Machine) (text : List ℕ) (e : Effect) → P (m .parks) → P (perform m text e .machine .parks)
+  parks-step m text (refuse _) h = h
+  parks-step m text (put i l size) h = h
+  parks-step m text (crypt i n size) h = h
+  parks-step m text (park i size) h = by-park (m .parks) i h
+  parks-step m text (resume i l k size) h = by-resume (m .parks) k h
+
+  parks-after : (xs : List Made) (m : Machine) → P (m .parks) → P (machineAfter m xs .parks)
+  unfolding step
+  parks-after [] m h = h
+  parks-after (x ∷ xs) m h = parks-after xs (step m (x .call) .machine) (parks-step m (x .call .text) (decide (public m) (x .call)) h)
+
+  pub parks-since : {before sofar : List Made} {p : Made} → (t : Stands before p sofar) → P (machineNext before p .parks) → P (machineAfter freshMachine sofar .parks)
+  parks-since {before = before} {p = p} t h = subst (λ (m : Machine). P (m .parks)) (sym (later t)) (parks-after (t .after) (machineNext before p) h)
+
+pub spent-since : {before sofar : List Made} {p : Made} (k : ℕ) → (t : Stands before p sofar) → Spent (machineNext before p .parks) k → Spent (machineAfter freshMachine sofar .parks) k
+spent-since k t h = parks-since (λ q. Spent q k) (λ q i. parked-keeps q i k) (λ q j. taken-keeps q j k) t h
+
+no-more : true ≡ false → ⊥
+no-more e = let z : _≡_ {A = ℕ} 0 1 = cc in omega (arith, z)
 
 -- ---- the list
 
 module _ (xs : List Made) (is : xs ≡ machineRun freshMachine (callsOf xs)) (bytes : AllBytes xs) where
   -- the place of a call in the list
-  record Place (before : List Made) (x : Made) : Type 0 where
+  pub record Place (before : List Made) (x : Made) : Type 0 where
     pub at : Reached (machineAfter freshMachine before) (cardAfter freshCard before) (λ i. logOf i before)
     pub run : x ≡ madeOf (x .call) (shows (step (machineAfter freshMachine before) (x .call)))
     pub did-is : Explained (machineAfter freshMachine before) (x .call) (decide (public (machineAfter freshMachine before)) (x .call)) (did x)
 
-  place : (before after : List Made) (x : Made) → xs ≡ before ++ (x ∷ after) → Place before x
-  place before after x e =
-      let r = subst (Runs freshMachine) e (runs xs freshMachine is) in
-      let b = subst AllBytes e bytes in
+  pub place : {before : List Made} {x : Made} → Stands before x xs → Place before x
+  place {before = before} {x = x} s =
+      let after = s .after in
+      let r = subst (Runs freshMachine) (s .is) (runs xs freshMachine is) in
+      let b = subst AllBytes (s .is) bytes in
       let h = runs-back before (x ∷ after) freshMachine r in
       record {
         at = reached before freshMachine freshCard (λ i. begun idle) reached-fresh (runs-front before (x ∷ after) freshMachine r) (bytes-front before (x ∷ after) b);
         run = h .0;
         did-is = explained-at (machineAfter freshMachine before) x (h .0);
       }
+
+  -- the calls between two of them are the machine's
+  pub runs-since : {before sofar : List Made} {p x : Made} → Stands sofar x xs → (t : Stands before p sofar) → Runs (machineNext before p) (t .after)
+  unfolding stands-in
+  runs-since {before = before} {p = p} {x = x} s t =
+      let w = stands-in s t in
+      runs-front (t .after) (x ∷ s .after) (machineNext before p) (runs-back before (p ∷ w .after) freshMachine (subst (Runs freshMachine) (w .is) (runs xs freshMachine is)) .1)
+
+  -- what it did tells
+  pub told-at : {before : List Made} {x : Made} → Stands before x xs → (d : Did) → did x ≡ d → Tells (machineAfter freshMachine before) (machineNext before x) d
+  unfolding step
+  told-at {before = before} {x = x} s d dx = let k = place s in told (machineAfter freshMachine before) (k .at .eight) (x .call) _ (did x) (k .did-is) d dx
 
   -- the line on the card after a call
   line-after : (before : List Made) (x : Made) → Place before x → (i : ℕ) → lineOn (x .card) i ≡ shown (lineAt (step (machineAfter freshMachine before) (x .call) .machine) i)
@@ -227,36 +295,49 @@ module _ (xs : List Made) (is : xs ≡ machineRun freshMachine (callsOf xs)) (by
       lineOn (x .card) i ≡ record { mode = 1; cipher = c; n = 0; words = cipherAt c .init key iv }
   unfolding step
   from-key-at {before = before} {x = x} s i c key iv dx =
-      let k = place before (s .after) x (s .is) in
-      line-after before x k i
-      ∙ ap shown (told (machineAfter freshMachine before) (k .at .eight) (x .call) _ (did x) (k .did-is) (did-open i c key iv) dx) ∙ opened-shown c key iv
+      let k = place s in
+      line-after before x k i ∙ ap shown (told-at s (did-open i c key iv) dx) ∙ opened-shown c key iv
 
   from-image-at : {before : List Made} {x : Made} → Stands before x xs → (j : ℕ) (image : List ℕ) → did x ≡ did-resume j image →
       lineOn (x .card) j ≡ imageLine image
   unfolding step
   from-image-at {before = before} {x = x} s j image dx =
-      let k = place before (s .after) x (s .is) in
-      line-after before x k j
-      ∙ ap shown (told (machineAfter freshMachine before) (k .at .eight) (x .call) _ (did x) (k .did-is) (did-resume j image) dx) ∙ shown-based (imageLine image)
+      let k = place s in
+      line-after before x k j ∙ ap shown (told-at s (did-resume j image) dx .line) ∙ shown-based (imageLine image)
 
   goes-on-at : {before sofar : List Made} {p x : Made} → Stands sofar x xs → Stands before p sofar → (i j : ℕ) (image : List ℕ) →
       did p ≡ did-park i image → did x ≡ did-resume j image →
       GoesOn (standing (logOf i before)) (logOf j (sofar ++ (x ∷ [])) .start)
-  goes-on-at {before = before} {sofar = sofar} {p = p} {x = x} s t i j image dp dx =
+  goes-on-at {before = before} {sofar = sofar} {x = x} s t i j image dp dx =
       let m = machineAfter freshMachine before in
-      let e : xs ≡ before ++ (p ∷ (t .after ++ (x ∷ s .after))) =
-      s .is ∙ ap (λ (l : List Made). l ++ (x ∷ s .after)) (t .is) ∙ append-assoc before (p ∷ t .after) (x ∷ s .after) in
-      let k = place before (t .after ++ (x ∷ s .after)) p e in
-      let w = told m (k .at .eight) (p .call) _ (did p) (k .did-is) (did-park i image) dp in
-      let g = image-goes-on (lineAt m i) (good-behind (lineAt m i) (good-get (k .at .good) i)) (sized (lineAt m i) (good-get (k .at .good) i) (w .up)) image (w .is) in
+      let k = place (stands-in s t) in
+      let w = told-at (stands-in s t) (did-park i image) dp in
+      let l = lineAt m i in
+      let h = good-get (k .at .good .lines) i in
+      let g = image-goes-on l (good-behind l h) (sized l h (w .up)) (numberNow (m .parks)) (number-word (m .parks) (w .left)) image (w .is) in
       subst (λ (y : Log). GoesOn (standing (logOf i before)) (y .start)) (sym (log-last j sofar x dx ∙ on-its-line j _ _))
       (subst (λ (y : MLine). GoesOn y (based (imageLine image))) (k .at .held i .line) g)
+
+  -- a number that was taken up is spent
+  pub spent-at : {before sofar : List Made} {p x : Made} → Stands sofar x xs → (t : Stands before p sofar) (i : ℕ) (image : List ℕ) → did p ≡ did-resume i image →
+      Spent (machineAfter freshMachine sofar .parks) (imageNumber image)
+  spent-at {before = before} s t i image dp =
+      let w = told-at (stands-in s t) (did-resume i image) dp in
+      spent-since (imageNumber image) t
+      (subst (λ (y : Parks). Spent y (imageNumber image)) (sym (w .took))
+      (taken-spent (machineAfter freshMachine before .parks) (imageNumber image) (place (stands-in s t) .at .good .parks) (w .held)))
+
+  once-at : {before sofar : List Made} {p x : Made} → Stands sofar x xs → Stands before p sofar → (i j : ℕ) (image image' : List ℕ) →
+      did p ≡ did-resume i image → did x ≡ did-resume j image' → imageNumber image ≡ imageNumber image' → ⊥
+  once-at {sofar = sofar} s t i j image image' dp dx same =
+      let p = machineAfter freshMachine sofar .parks in
+      no-more (sym (ap (holds p) same ∙ told-at s (did-resume j image') dx .held) ∙ spent-refused p (imageNumber image) (spent-at s t i image dp))
 
   others-at : {before : List Made} {x : Made} → Stands before x xs → (i : ℕ) → (On i x → ⊥) → Kept i before x
   unfolding step
   others-at {before = before} {x = x} s i apart =
       let m = machineAfter freshMachine before in
-      let k = place before (s .after) x (s .is) in
+      let k = place s in
       let f : step m (x .call) .outcome .code ≡ 0 → getD (x .call .command) 1 0 ≡ i → ⊥ =
       λ z n. apart (record { accepted = ap (λ (y : Made). y .code) (k .run) ∙ z; line = n }) in
       record {
@@ -268,7 +349,7 @@ module _ (xs : List Made) (is : xs ≡ machineRun freshMachine (callsOf xs)) (by
 
   pub machine-one-stream : OneStream xs
   machine-one-stream =
-      record { machine-is = is; streams = streams-at; from-key = from-key-at; from-image = from-image-at; goes-on = goes-on-at; others = others-at }
+      record { machine-is = is; streams = streams-at; from-key = from-key-at; from-image = from-image-at; goes-on = goes-on-at; once = once-at; others = others-at }
 
   -- ---- positions and codes
 
@@ -276,14 +357,14 @@ module _ (xs : List Made) (is : xs ≡ machineRun freshMachine (callsOf xs)) (by
   unfolding step shown moved
   takes-at {before = before} {x = x} s i input output dx =
       let m = machineAfter freshMachine before in
-      let k = place before (s .after) x (s .is) in
+      let k = place s in
       let here : lineOn (cardAfter freshCard before) i ≡ shown (lineAt m i) = ap (λ (c : Seen). lineOn c i) (k .at .card) ∙ seen-at m i in
       let l : logOf i (before ++ (x ∷ [])) ≡ joined (logOf i before) input output = log-last i before x dx ∙ on-its-line i _ _ in
       record {
         from = ap (λ (y : Line). y .n) here ∙ held-streamed (lineAt m i) (logOf i before) (k .at .held i) .position;
         to =
             ap (λ (y : Line). y .n) (line-after before x k i)
-            ∙ ap (λ (y : MLine). y .pos) (told m (k .at .eight) (x .call) _ (did x) (k .did-is) (did-crypt i input output) dx)
+            ∙ ap (λ (y : MLine). y .pos) (told-at s (did-crypt i input output) dx)
             ∙ ap (λ (y : Line). y .n + length input) (sym here);
         since = ap (λ (g : Log). g .start) l;
         taken = ap (λ (g : Log). g .ins) l;
@@ -294,11 +375,11 @@ module _ (xs : List Made) (is : xs ≡ machineRun freshMachine (callsOf xs)) (by
   within-at i =
       let r = reached xs freshMachine freshCard (λ i. begun idle) reached-fresh (runs xs freshMachine is) bytes in
       let e : lineOn (cardAfter freshCard xs) i ≡ shown (lineAt (machineAfter freshMachine xs) i) = ap (λ (c : Seen). lineOn c i) (r .card) ∙ seen-at (machineAfter freshMachine xs) i in
-      subst (λ (y : Line). y .n ≤ limit) (sym e) (good-within (lineAt (machineAfter freshMachine xs) i) (good-get (r .good) i))
+      subst (λ (y : Line). y .n ≤ limit) (sym e) (good-within (lineAt (machineAfter freshMachine xs) i) (good-get (r .good .lines) i))
 
   codes-at : {before : List Made} {x : Made} → Stands before x xs → x .code ≤ lastNumber
   codes-at {before = before} {x = x} s =
-      let k = place before (s .after) x (s .is) in
+      let k = place s in
       subst (λ (y : Made). y .code ≤ lastNumber) (sym (k .run)) (code-small (machineAfter freshMachine before) (x .call))
 
   pub machine-counted : Counted xs

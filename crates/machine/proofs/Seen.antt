@@ -8,8 +8,8 @@ use Rattle.machine.specs.Machine.{Line, MLine, Seen, shown, based, seen,
 use Rattle.machine.proofs.Simulation.{shown-all, map-set}
 
 pub seen-back : (c : Seen) → seen (back c) ≡ c
-seen-back c = ap (λ (x : List Line). record { lines = x }) (shown-all (c .lines))
+seen-back c = ap (λ (x : List Line). record { lines = x; parks = c .parks }) (shown-all (c .lines))
 
 pub seen-with : (c : Seen) (i : ℕ) (m : MLine) → seen (withLine (back c) i m) ≡ withLineSeen c i (shown m)
 seen-with c i m =
-    ap (λ (x : List Line). record { lines = x }) (map-set shown (map based (c .lines)) i m ∙ ap (λ (x : List Line). set x i (shown m)) (shown-all (c .lines)))
+    ap (λ (x : List Line). record { lines = x; parks = c .parks }) (map-set shown (map based (c .lines)) i m ∙ ap (λ (x : List Line). set x i (shown m)) (shown-all (c .lines)))

@@ -12,6 +12,7 @@ use Rattle.words.specs.Tests.{pick}
 use Rattle.words.proofs.Ranges.{all-drop}
 use Rattle.ciphers.specs.Table.{isCipher, cipherAt, mugi}
 use Rattle.ciphers.proofs.States.{all-take}
+use Rattle.ciphers.proofs.Tests.{both-true}
 use Rattle.command.specs.declared.Cipher.{Cipher}
 use Rattle.command.specs.declared.Cipher.the-variants.{Zuc, Rabbit, Snow128, Snow256, Kcipher2, Mugi}
 use Rattle.command.specs.declared.Command.{Command}
@@ -19,9 +20,11 @@ use Rattle.command.specs.declared.Command.the-variants.{Tray, Own, Crypt, Park,
 use Rattle.command.specs.declared.Decoded.{Decoded}
 use Rattle.command.specs.declared.Decoded.the-variants.{Run, Refused}
 use Rattle.command.specs.Decode.{decodeOf, numberOf, operandsOf}
-use Rattle.machine.specs.Machine.{Line, MLine, Machine, idle, shown, based, moved, enciphered, imageOf, lineAt, seen, back, lineCount, View, noView, viewOf, public, viewAt, isOpen, limit, keyIn, ivIn, Call, Effect, refuse, put, crypt, park, effectOf, ofDecoded, decide, answer, perform, step, shows, cardStep, freshMachine}
+use Rattle.machine.specs.Machine.{Line, MLine, Machine, idle, shown, based, moved, enciphered, imageOf, lineAt, seen, back, lineCount, View, noView, viewOf, public, viewAt, isOpen, limit, keyIn, ivIn, Call, Effect, refuse, put, crypt, park, resume, effectOf, ofDecoded, decide, answer, perform, step, shows, cardStep, freshMachine}
+use Rattle.machine.specs.Parks.{numberNow, parked, taken, parksOk}
 use Rattle.machine.specs.OneStream.{CallBytes}
 use Rattle.machine.proofs.Lines.{Good, good-idle, shown-idle, shown-based, all-ok, opened-good, resumed-good, moved-same, crypted-same, moved-good, good-behind}
+use Rattle.machine.proofs.Parks.{parked-ok, taken-ok, fresh-ok, parked-long, taken-long}
 use Rattle.machine.proofs.Rows.{Passed, passed, decided-by}
 
 -- ---- every line
@@ -40,8 +43,14 @@ good-set none-good i g = none-good
 good-set (more-good x h) zero g = more-good g h
 good-set (more-good x h) (suc i) g = more-good x (good-set h i g)
 
-pub fresh-good : AllGood (freshMachine .lines)
-fresh-good = eight 8
+-- a machine that a list of calls leads to
+pub record GoodCard (m : Machine) : Type 0 where
+  pub lines : AllGood (m .lines)
+  pub parks : parksOk (m .parks) ≡ true
+  pub long : length (m .parks .held) ≡ lineCount
+
+pub fresh-good : GoodCard freshMachine
+fresh-good = record { lines = eight 8; parks = fresh-ok; long = refl }
   where
     eight : (k : ℕ) → AllGood (replicate k idle)
     eight zero = none-good
@@ -54,8 +63,9 @@ pub data Fair (m : Machine) (a : Call) : Effect → Type 0 where
   fair-put : {i : ℕ} {l : MLine} {size : ℕ} → Good l → Fair m a (put i l size)
   fair-crypt : {i n size : ℕ} → lineAt m i .mode ≡ 1 → lineAt m i .pos + n ≤ limit → n ≤ length (a .text) → Fair m a (crypt i n size)
   fair-park : {i size : ℕ} → lineAt m i .mode ≡ 1 → Fair m a (park i size)
+  fair-resume : {i : ℕ} {l : MLine} {k size : ℕ} → Good l → Fair m a (resume i l k size)
 
-view-get : (ls : List MLine) (i : ℕ) → getD (map viewOf ls) i noView ≡ viewOf (getD ls i idle)
+pub view-get : (ls : List MLine) (i : ℕ) → getD (map viewOf ls) i noView ≡ viewOf (getD ls i idle)
 unfolding viewOf
 view-get [] i = refl
 view-get (l ∷ ls) zero = refl
@@ -91,7 +101,7 @@ module _ (m : Machine) (a : Call) where
       (all-take (cipherAt (numberOf c) .iv) (all-take 16 (all-drop 35 (b .command)))))
   fair-effect b (Crypt i n) p = fair-crypt (is-open i (passed 6 p)) (in-limit i n (passed 13 p)) (ltb-false (length (a .text)) n (passed 11 p))
   fair-effect b (Park i) p = fair-park (is-open i (passed 6 p))
-  fair-effect b (Resume i) p = fair-put (resumed-good (a .command) (b .command) (not-false _ (passed 8 p)))
+  fair-effect b (Resume i) p = fair-resume (resumed-good (a .command) (b .command) (not-false _ (passed 8 p)))
   fair-effect b (Close i) p = fair-put good-idle
 
   fair : CallBytes a → (d : Decoded) → Fair m a (ofDecoded d (public m) a)
@@ -123,7 +133,7 @@ get-same [] i = sym based-idle
 get-same (l ∷ ls) zero = refl
 get-same (l ∷ ls) (suc i) = get-same ls i
 
-module _ (m : Machine) (all : AllGood (m .lines)) (a : Call) (b : CallBytes a) where
+module _ (m : Machine) (good : GoodCard m) (a : Call) (b : CallBytes a) where
   set-same : (i : ℕ) (x y : MLine) → shown x ≡ shown y → map shown (set (map based (map shown (m .lines))) i x) ≡ map shown (set (m .lines) i y)
   set-same i x y e =
       map-set shown (map based (map shown (m .lines))) i x
@@ -131,27 +141,30 @@ module _ (m : Machine) (all : AllGood (m .lines)) (a : Call) (b : CallBytes a) w
       ∙ sym (map-set shown (m .lines) i y)
 
   perform-same : (e : Effect) → Fair m a e → shows (perform (back (seen m)) (a .text) e) ≡ shows (perform m (a .text) e)
-  perform-same (refuse k) fair-refuse = λ j. record { outcome = answer k 0 0 []; card = record { lines = shown-all (map shown (m .lines)) j } }
-  perform-same (put i l size) (fair-put f) = λ j. record { outcome = answer 0 size 0 []; card = record { lines = set-same i l l refl j } }
+  perform-same (refuse k) fair-refuse = λ j. record { outcome = answer k 0 0 []; card = record { lines = shown-all (map shown (m .lines)) j; parks = m .parks } }
+  perform-same (put i l size) (fair-put f) = λ j. record { outcome = answer 0 size 0 []; card = record { lines = set-same i l l refl j; parks = m .parks } }
   perform-same (crypt i n size) (fair-crypt p q r) =
       let l = lineAt m i in
-      let h = good-behind l (good-get all i) in
+      let h = good-behind l (good-get (good .lines) i) in
       let g = get-same (m .lines) i in
       let s : shown (moved (lineAt (back (seen m)) i) n) ≡ shown (moved l n) = ap (λ (x : MLine). shown (moved x n)) g ∙ moved-same l h n in
       let w = ap (λ (x : MLine). enciphered x (take n (a .text))) g ∙ crypted-same l h n (take n (a .text)) in
-      λ j. record { outcome = answer 0 size n (w j); card = record { lines = set-same i (moved (lineAt (back (seen m)) i) n) (moved l n) s j } }
+      λ j. record { outcome = answer 0 size n (w j); card = record { lines = set-same i (moved (lineAt (back (seen m)) i) n) (moved l n) s j; parks = m .parks } }
   perform-same (park i size) (fair-park p) =
-      let w = ap (λ (x : MLine). imageOf (shown x)) (get-same (m .lines) i) ∙ ap imageOf (shown-based (shown (lineAt m i))) in
-      λ j. record { outcome = answer 0 size 0 (w j); card = record { lines = set-same i idle idle refl j } }
+      let k = numberNow (m .parks) in
+      let w = ap (λ (x : MLine). imageOf k (shown x)) (get-same (m .lines) i) ∙ ap (imageOf k) (shown-based (shown (lineAt m i))) in
+      λ j. record { outcome = answer 0 size 0 (w j); card = record { lines = set-same i idle idle refl j; parks = parked (m .parks) i } }
+  perform-same (resume i l k size) (fair-resume f) = λ j. record { outcome = answer 0 size 0 []; card = record { lines = set-same i l l refl j; parks = taken (m .parks) k } }
 
-  perform-good : (e : Effect) → Fair m a e → AllGood (perform m (a .text) e .machine .lines)
-  perform-good (refuse k) fair-refuse = all
-  perform-good (put i l size) (fair-put f) = good-set all i f
-  perform-good (crypt i n size) (fair-crypt p q r) = good-set all i (moved-good (lineAt m i) n (good-get all i) p q)
-  perform-good (park i size) (fair-park p) = good-set all i good-idle
+  perform-good : (e : Effect) → Fair m a e → GoodCard (perform m (a .text) e .machine)
+  perform-good (refuse k) fair-refuse = good
+  perform-good (put i l size) (fair-put f) = record { lines = good-set (good .lines) i f; parks = good .parks; long = good .long }
+  perform-good (crypt i n size) (fair-crypt p q r) = record { lines = good-set (good .lines) i (moved-good (lineAt m i) n (good-get (good .lines) i) p q); parks = good .parks; long = good .long }
+  perform-good (park i size) (fair-park p) = record { lines = good-set (good .lines) i good-idle; parks = parked-ok (m .parks) i (good .parks); long = parked-long (m .parks) i ∙ good .long }
+  perform-good (resume i l k size) (fair-resume f) = record { lines = good-set (good .lines) i f; parks = taken-ok (m .parks) k (good .parks); long = taken-long (m .parks) k ∙ good .long }
 
-  -- every line stays good
-  pub step-good : AllGood (step m a .machine .lines)
+  -- every line stays good, and the parks do
+  pub step-good : GoodCard (step m a .machine)
   unfolding step decide
   step-good = perform-good _ (fair m a b (decodeOf (a .command)))
 
@@ -159,6 +172,6 @@ module _ (m : Machine) (all : AllGood (m .lines)) (a : Call) (b : CallBytes a) w
   pub step-same : cardStep (seen m) a ≡ shows (step m a)
   unfolding cardStep step decide
   step-same =
-      ap (λ (t : Bool). pick t (shows (step (back (seen m)) a)) (record { outcome = answer 255 0 0 []; card = seen m })) (all-ok lineCount (m .lines) (good-get all))
-      ∙ ap (λ (vs : List View). shows (perform (back (seen m)) (a .text) (decide (record { lines = vs }) a))) (views-same (m .lines))
+      ap (λ (t : Bool). pick t (shows (step (back (seen m)) a)) (record { outcome = answer 255 0 0 []; card = seen m })) (both-true (all-ok lineCount (m .lines) (good-get (good .lines))) (good .parks))
+      ∙ ap (λ (vs : List View). shows (perform (back (seen m)) (a .text) (decide (record { lines = vs; parks = m .parks }) a))) (views-same (m .lines))
       ∙ perform-same _ (fair m a b (decodeOf (a .command)))

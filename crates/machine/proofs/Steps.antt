@@ -1,15 +1,17 @@
 -- Demand 3 of a card: every list of its steps from a fresh card is the machine's, since on every card that the calls before it left its step is the machine's.
 -- Assumes nothing.
 use mathlib.Core.Path.{_≡_, refl, ap, ap₂, sym, _∙_}
-use mathlib.Core.List.{List, [], _∷_}
-use Rattle.machine.specs.Machine.{Machine, Seen, Call, Shown, seen, shows, step, cardStep, freshMachine, freshCard}
+use mathlib.Core.List.{List, _∷_}
+use Rattle.machine.specs.Machine.{Machine, Seen, Shown, seen, shows, step, cardStep, freshMachine, freshCard}
 use Rattle.machine.specs.Logs.{Made, madeOf, machineRun, callsOf}
 use Rattle.machine.specs.OneStream.{AllBytes, OneStream, Counted}
+use Rattle.machine.specs.Parking.{ParkedCalls}
 use Rattle.machine.specs.Steps.{Steps, none, step as stepped}
-use Rattle.machine.proofs.Simulation.{AllGood, step-same, step-good, fresh-good}
+use Rattle.machine.proofs.Simulation.{GoodCard, step-same, step-good, fresh-good}
 use Rattle.machine.proofs.OneStream.{fresh-seen, machine-one-stream, machine-counted}
+use Rattle.machine.proofs.Parking.{machine-parked-calls}
 
-steps-are : {c : Seen} {xs : List Made} → Steps c xs → (m : Machine) → AllGood (m .lines) → c ≡ seen m → xs ≡ machineRun m (callsOf xs)
+steps-are : {c : Seen} {xs : List Made} → Steps c xs → (m : Machine) → GoodCard m → c ≡ seen m → xs ≡ machineRun m (callsOf xs)
 steps-are none m g e = refl
 steps-are (stepped {c = c} {a = a} b t) m g e =
     let s : cardStep c a ≡ shows (step m a) = ap (λ (x : Seen). cardStep x a) e ∙ step-same m g a b in
@@ -26,3 +28,7 @@ steps-one-stream xs h = machine-one-stream xs (steps-are h freshMachine fresh-go
 -- In such a list the crypts of a line take positions one after the other, none past 2^36, and 255 is never said.
 pub steps-counted : (xs : List Made) → Steps freshCard xs → Counted xs
 steps-counted xs h = machine-counted xs (steps-are h freshMachine fresh-good (sym fresh-seen)) (steps-bytes h)
+
+-- In such a list an image that a park wrote is taken up once, and until its line parks again.
+pub steps-parked-calls : (xs : List Made) → Steps freshCard xs → ParkedCalls xs
+steps-parked-calls xs h = machine-parked-calls xs (steps-are h freshMachine fresh-good (sym fresh-seen)) (steps-bytes h)

@@ -14,7 +14,7 @@ use borrow.Author.Tests.{eqb-true, eqb-false}
 use Rattle.words.specs.Tests.{pick}
 use Rattle.keystream.specs.Stream.{xorFrom}
 use Rattle.keystream.proofs.Laws.{xorFrom-append}
-use Rattle.machine.specs.Machine.{MLine, Machine, lineAt, idle, idleLine, unitAt, stateOf, byteOf, shown, enciphered, moved, Call, Effect, refuse, put, crypt, park, perform, seen}
+use Rattle.machine.specs.Machine.{MLine, Machine, lineAt, idle, idleLine, unitAt, stateOf, byteOf, shown, enciphered, moved, Call, Effect, refuse, put, crypt, park, resume, perform, seen}
 use Rattle.machine.specs.Logs.{Did, did-nothing, did-open, did-crypt, did-park, did-resume, did-close, Log, begun, joined, noted, standing, lineOn}
 use Rattle.machine.specs.OneStream.{Streamed}
 use Rattle.machine.proofs.Lines.{shown-idle}
@@ -80,8 +80,8 @@ module _ (m : Machine) (eight : length (m .lines) ≡ 8) (a : Call) (i : ℕ) (g
   effect-held (crypt j k size) (did-crypt _ _ _) (was-crypt n q) =
       set-one j (moved (lineAt m j) k) _ n
       (λ e. crypt-held (lineAt m j) g k (a .text) q (subst (λ (x : ℕ). Held (lineAt m x) g) (sym e) h))
-  effect-held (park j size) (did-park _ _) (was-park n q) = set-one j idle (begun idle) n (λ _. begun-held idle)
-  effect-held (put j _ size) (did-resume _ image) (was-resume n) = set-one j _ _ n (λ _. begun-held _)
+  effect-held (park j size) (did-park _ _) (was-park n q r) = set-one j idle (begun idle) n (λ _. begun-held idle)
+  effect-held (resume j _ k size) (did-resume _ image) (was-resume n h) = set-one j _ _ n (λ _. begun-held _)
   effect-held (put j _ size) (did-close _) (was-close n) = set-one j idle (begun idle) n (λ _. begun-held idle)
 
 -- what is seen of a line

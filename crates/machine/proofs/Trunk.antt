@@ -2,18 +2,15 @@
 -- two streams that meet at a byte are joined there.
 -- Assumes nothing.
 use mathlib.Core.Path.{_≡_, refl, ap, ap₂, sym, _∙_, subst}
-use mathlib.Core.Bool.{Bool}
 use mathlib.Core.List.{List, [], _∷_, _++_, append-assoc, append-nil}
 use Prim.Native.Nat.{ℕ, _+_, _/_}
 use native.Mathlib.Omega.{arith}
 use lib.ListN.{length}
-use borrow.Author.Tests.{eq-eqb}
-use Rattle.words.specs.Tests.{pick}
 use Rattle.keystream.specs.Stream.{xorFrom}
 use Rattle.keystream.proofs.Laws.{xorFrom-append, xorFrom-agree}
 use Rattle.ciphers.specs.Table.{cipherAt}
-use Rattle.machine.specs.Machine.{Line, MLine, Seen, genOf, unitAt, byteOf, stateOf, moved, shown, idle, opened, imageLine, freshMachine, freshCard}
-use Rattle.machine.specs.Logs.{Made, machineRun, callsOf, cardAfter, lineOn, did, did-open, did-park, did-resume, Log, begun, noted, logOf, standing}
+use Rattle.machine.specs.Machine.{Line, MLine, Seen, genOf, unitAt, byteOf, stateOf, moved, shown, opened, imageLine, freshMachine, freshCard}
+use Rattle.machine.specs.Logs.{Made, machineRun, callsOf, cardAfter, lineOn, did, did-open, did-park, did-resume, Log, logOf, standing}
 use Rattle.machine.specs.OneStream.{Streamed, GoesOn, On, Stands, OneStream}
 use Rattle.machine.proofs.Deciphers.{given-back}
 use Rattle.machine.proofs.Lines.{shown-based}
@@ -69,7 +66,7 @@ pub opened-waits : (xs : List Made) → OneStream xs → {before : List Made} {x
     lineOn (cardAfter freshCard (before ++ (x ∷ quiet))) i ≡ record { mode = 1; cipher = c; n = 0; words = cipherAt c .init key iv }
 opened-waits xs o s i c key iv d quiet after e a = held-after xs o s i quiet after e a ∙ o .from-key s i c key iv d
 
--- A resumed line waits at what its image says: all lines that were given one image begin alike.
+-- A resumed line waits at what its image says.
 pub resumed-waits : (xs : List Made) → OneStream xs → {before : List Made} {x : Made} (s : Stands before x xs) (i : ℕ) (image : List ℕ) → did x ≡ did-resume i image →
     (quiet after : List Made) → s .after ≡ quiet ++ after → Apart i quiet → lineOn (cardAfter freshCard (before ++ (x ∷ quiet))) i ≡ imageLine image
 resumed-waits xs o s i image d quiet after e a = held-after xs o s i quiet after e a ∙ o .from-image s i image d

@@ -3,7 +3,7 @@
 -- out; `perform` does what is left.
 -- Assumes nothing.
 use mathlib.Core.Bool.{Bool, true, false, not}
-use mathlib.Core.List.{List, [], _∷_, _++_, map}
+use mathlib.Core.List.{List, [], _∷_, map}
 use Prim.Native.Nat.{ℕ, zero, suc, _+_, _*_, _/_, _%_, _^_}
 use lib.Dec.{ltb, leb, eqb}
 use lib.ListN.{length, getD, take, drop, set, replicate}
@@ -21,6 +21,7 @@ pub use Rattle.command.specs.Rows.{lastNumber}
 use Rattle.command.specs.Rows.{Row, _when_, unless, among}
 use Rattle.command.specs.Decode.{decodeOf, Operands, operandsOf, sizeOf}
 use Rattle.machine.specs.Fields.{written, fieldsAt}
+use Rattle.machine.specs.Parks.{Parks, freshParks, noMore, numberNow, parked, holds, taken, parksOk}
 
 -- ---- lines
 
@@ -83,20 +84,25 @@ moved l k = record { mode = l .mode; cipher = l .cipher; base = l .base; from = 
 unfoldable pub opened : ℕ → List ℕ → List ℕ → MLine
 opened c key iv = record { mode = 1; cipher = c; base = cipherAt c .init key iv; from = 0; pos = 0 }
 
--- ---- images: a field of 1 byte for the cipher, one of 8 for n, and one of 4 for each of the state's words with the zeros after them
+-- ---- images: a field of 1 byte for the cipher, one of 8 for n, one of 4 for the park's number, and one of 4 for each of the state's words with the zeros after them
 
 abbrev pub imageWidths : List ℕ
-imageWidths = 1 ∷ 8 ∷ replicate stateWords 4
+imageWidths = 1 ∷ 8 ∷ 4 ∷ replicate stateWords 4
 
-unfoldable pub imageOf : Line → List ℕ
-imageOf l = written imageWidths (l .cipher ∷ l .n ∷ l .words)
+-- the image that the park of number k makes of a line
+unfoldable pub imageOf : ℕ → Line → List ℕ
+imageOf k l = written imageWidths (l .cipher ∷ l .n ∷ k ∷ l .words)
 
 -- the open line that an image holds
 abbrev pub fieldsLine : List ℕ → Line
-fieldsLine xs = record { mode = 1; cipher = getD xs 0 0; n = getD xs 1 0; words = drop 2 xs }
+fieldsLine xs = record { mode = 1; cipher = getD xs 0 0; n = getD xs 1 0; words = drop 3 xs }
 
 unfoldable pub imageLine : List ℕ → Line
 imageLine img = fieldsLine (fieldsAt imageWidths img 0)
+
+-- and the number of its park
+unfoldable pub imageNumber : List ℕ → ℕ
+imageNumber img = getD (fieldsAt imageWidths img 0) 2 0
 
 -- the image that a resume brings
 abbrev pub imageIn : List ℕ → List ℕ
@@ -140,31 +146,39 @@ pub record Outcome : Type 0 where
 
 pub record Machine : Type 0 where
   pub lines : List MLine
+  pub parks : Parks
 
 abbrev pub lineAt : Machine → ℕ → MLine
 lineAt m i = getD (m .lines) i idle
 
 abbrev pub withLine : Machine → ℕ → MLine → Machine
-withLine m i l = record { lines = set (m .lines) i l }
+withLine m i l = record { lines = set (m .lines) i l; parks = m .parks }
+
+abbrev pub withParks : Machine → Parks → Machine
+withParks m p = record { lines = m .lines; parks = p }
 
 pub record Seen : Type 0 where
   pub lines : List Line
+  pub parks : Parks
 
 abbrev pub withLineSeen : Seen → ℕ → Line → Seen
-withLineSeen c i l = record { lines = set (c .lines) i l }
+withLineSeen c i l = record { lines = set (c .lines) i l; parks = c .parks }
+
+abbrev pub withParksSeen : Seen → Parks → Seen
+withParksSeen c p = record { lines = c .lines; parks = p }
 
 abbrev pub seen : Machine → Seen
-seen m = record { lines = map shown (m .lines) }
+seen m = record { lines = map shown (m .lines); parks = m .parks }
 
 -- the machine that starts from what is seen
 abbrev pub back : Seen → Machine
-back s = record { lines = map based (s .lines) }
+back s = record { lines = map based (s .lines); parks = s .parks }
 
 abbrev pub freshCard : Seen
-freshCard = record { lines = replicate lineCount idleLine }
+freshCard = record { lines = replicate lineCount idleLine; parks = freshParks }
 
 abbrev pub freshMachine : Machine
-freshMachine = record { lines = replicate lineCount idle }
+freshMachine = record { lines = replicate lineCount idle; parks = freshParks }
 
 -- each of the first k lines is as a call leaves it
 abbrev pub allOk : ℕ → List Line → Bool
@@ -173,9 +187,9 @@ allOk (suc k) ls = both (allOk k ls) (lineOk (getD ls k idleLine))
 
 -- a card that is as a call leaves it
 abbrev pub cardOk : Seen → Bool
-cardOk c = allOk lineCount (c .lines)
+cardOk c = both (allOk lineCount (c .lines)) (parksOk (c .parks))
 
--- of a line its mode, its cipher and its position are public
+-- of a line its mode, its cipher and its position are public, and the parks are
 pub record View : Type 0 where
   pub mode : ℕ
   pub cipher : ℕ
@@ -189,9 +203,10 @@ viewOf l = record { mode = l .mode; cipher = l .cipher; pos = l .pos }
 
 pub record Public : Type 0 where
   pub lines : List View
+  pub parks : Parks
 
 abbrev pub public : Machine → Public
-public m = record { lines = map viewOf (m .lines) }
+public m = record { lines = map viewOf (m .lines); parks = m .parks }
 
 abbrev pub viewAt : Public → ℕ → View
 viewAt v i = getD (v .lines) i noView
@@ -239,12 +254,13 @@ trayOk n = both (eqb (n % keyLength) 0) (leb n fullTray)
 
 -- ---- what is to be done
 
--- a refusal; a line put in the place of line i; count bytes crypted on line i; line i parked; each with the bytes of the command
+-- a refusal; a line put in the place of line i; count bytes crypted on line i; line i parked; a line put in the place of line i that takes up park k; each with the bytes of the command
 pub data Effect : Type 0 where
   refuse : ℕ → Effect
   put : (i : ℕ) (l : MLine) (size : ℕ) → Effect
   crypt : (i count size : ℕ) → Effect
   park : (i size : ℕ) → Effect
+  resume : (i : ℕ) (l : MLine) (k size : ℕ) → Effect
 
 unfoldable pub refuseIf : Bool → ℕ → Effect → Effect
 refuseIf true k e = refuse k
@@ -259,7 +275,7 @@ effectOf (Tray i c k) a = put i (openedBy (operandsOf (Tray i c k)) a) (sizeOf (
 effectOf (Own i c) a = put i (openedBy (operandsOf (Own i c)) a) (sizeOf (Own i c))
 effectOf (Crypt i n) a = crypt i n (sizeOf (Crypt i n))
 effectOf (Park i) a = park i (sizeOf (Park i))
-effectOf (Resume i) a = put i (based (imageLine (imageIn (a .command)))) (sizeOf (Resume i))
+effectOf (Resume i) a = resume i (based (imageLine (imageIn (a .command)))) (imageNumber (imageIn (a .command))) (sizeOf (Resume i))
 effectOf (Close i) a = put i idle (sizeOf (Close i))
 
 -- All that a decision reads of a call: three lengths, whether a byte of the key or the IV beyond the cipher's length is not 0, and the image that a resume brings; no byte of data, and
@@ -288,6 +304,8 @@ refusals o v f =
     (5 when both (among (1 ∷ 2 ∷ 5 ∷ []) (o .kind)) (not (isIdle v (o .line))))
     -- crypt, park or close on an idle one
     ∷ (6 when both (among (3 ∷ 4 ∷ 6 ∷ []) (o .kind)) (not (isOpen v (o .line))))
+    -- no park is left
+    ∷ (15 when both (eqb (o .kind) 4) (noMore (v .parks)))
     -- tray length not a multiple of 32, or over 8,192
     ∷ (9 when both (fromTray o) (not (trayOk (f .tray))))
     -- key number not in it
@@ -296,6 +314,8 @@ refusals o v f =
     ∷ (7 when both (opens o) (f .spare))
     -- image: cipher, n, padding, ZUC cell, Rabbit carry
     ∷ (8 when both (eqb (o .kind) 5) (not (openOk (imageLine (f .image)))))
+    -- park number not held
+    ∷ (14 when both (eqb (o .kind) 5) (not (holds (v .parks) (imageNumber (f .image)))))
     -- n + count over 2^36
     ∷ (13 when both (crypts o) (ltb limit (viewAt v (o .line) .pos + o .count)))
     -- data shorter than count
@@ -333,7 +353,8 @@ perform m text (put i l size) = record { machine = withLine m i l; outcome = ans
 perform m text (crypt i n size) =
     record { machine = withLine m i (moved (lineAt m i) n); outcome = answer 0 size n (enciphered (lineAt m i) (take n text)) }
 perform m text (park i size) =
-    record { machine = withLine m i idle; outcome = answer 0 size 0 (imageOf (shown (lineAt m i))) }
+    record { machine = withParks (withLine m i idle) (parked (m .parks) i); outcome = answer 0 size 0 (imageOf (numberNow (m .parks)) (shown (lineAt m i))) }
+perform m text (resume i l k size) = record { machine = withParks (withLine m i l) (taken (m .parks) k); outcome = answer 0 size 0 [] }
 
 unfoldable pub step : Machine → Call → Stepped
 step m a = perform m (a .text) (decide (public m) a)

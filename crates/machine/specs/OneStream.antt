@@ -7,7 +7,7 @@ use lib.ListN.{length, getD}
 use Rattle.words.specs.Lists.{All, Byte}
 use Rattle.keystream.specs.Stream.{xorFrom}
 use Rattle.ciphers.specs.Table.{cipherAt}
-use Rattle.machine.specs.Machine.{Line, MLine, Call, genOf, genAt, byteOf, stateOf, imageLine, limit, lastNumber, freshMachine, freshCard}
+use Rattle.machine.specs.Machine.{Line, MLine, Call, genOf, genAt, byteOf, stateOf, imageLine, imageNumber, limit, lastNumber, freshMachine, freshCard}
 use Rattle.machine.specs.Logs.{Made, machineRun, callsOf, cardAfter, lineOn, did, did-open, did-crypt, did-park, did-resume, Log, logOf, standing}
 
 -- The buffers that a key, an IV or an image is read from hold bytes. The entries promise it of what they were lent.
@@ -55,7 +55,7 @@ pub record Stands (before : List Made) (x : Made) (xs : List Made) : Type 0 wher
 
 -- The list xs, from a fresh card.
 pub record OneStream (xs : List Made) : Type 0 where
-  -- every code, count and byte of out, and after each call what is seen of each line, are the machine's
+  -- every code, count and byte of out, and after each call what is seen of each line and the parks, are the machine's
   pub machine-is : xs ≡ machineRun freshMachine (callsOf xs)
   -- after the list, each line's joined outputs, its position and its state
   pub streams : (i : ℕ) → Streamed (lineOn (cardAfter freshCard xs) i) (logOf i xs)
@@ -69,6 +69,9 @@ pub record OneStream (xs : List Made) : Type 0 where
   pub goes-on : {before sofar : List Made} {p x : Made} → Stands sofar x xs → Stands before p sofar → (i j : ℕ) (image : List ℕ) →
       did p ≡ did-park i image → did x ≡ did-resume j image →
       GoesOn (standing (logOf i before)) (logOf j (sofar ++ (x ∷ [])) .start)
+  -- no two resumes take up the same park
+  pub once : {before sofar : List Made} {p x : Made} → Stands sofar x xs → Stands before p sofar → (i j : ℕ) (image image' : List ℕ) →
+      did p ≡ did-resume i image → did x ≡ did-resume j image' → imageNumber image ≡ imageNumber image' → ⊥
   -- a call on another line, or a refused one, changes neither a line's stream nor its position nor its state
   pub others : {before : List Made} {x : Made} → Stands before x xs → (i : ℕ) → (On i x → ⊥) → Kept i before x
 
@@ -87,5 +90,5 @@ pub record Counted (xs : List Made) : Type 0 where
   pub takes : {before : List Made} {x : Made} → Stands before x xs → (i : ℕ) (input output : List ℕ) → did x ≡ did-crypt i input output → Takes i before x input
   -- after the list no line stands past 2^36
   pub within : (i : ℕ) → lineOn (cardAfter freshCard xs) i .n ≤ limit
-  -- every code is 0 or a number from 1 to 13
+  -- every code is 0 or a number from 1 to 15
   pub codes : {before : List Made} {x : Made} → Stands before x xs → x .code ≤ lastNumber

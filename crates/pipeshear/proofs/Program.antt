@@ -3,17 +3,17 @@
 use mathlib.Core.Path.{_≡_, refl, ap, sym, subst, _∙_}
 use mathlib.Core.Bool.{Bool, true, false}
 use mathlib.Core.List.{List, [], _∷_}
-use Prim.Native.Nat.{ℕ, _≤_}
-use native.Mathlib.Omega.{arith}
+use Prim.Native.Nat.{ℕ}
 use lib.Dec.{eqb}
-use lib.ListN.{length, getD, replicate, length-replicate}
+use lib.ListN.{length, getD, replicate}
 use borrow.Author.Tests.{eqb-true, eqb-false}
 use Rattle.card_sizes.specs.Sizes.{cardSize}
 use Rattle.machine.specs.Machine.{Machine, Call, Seen, step, cardStep, freshMachine, freshCard}
 use Rattle.machine.specs.Logs.{Made, madeOf, callsOf}
 use Rattle.machine.specs.OneStream.{BytesIn, OneStream, Counted}
 use Rattle.machine.specs.Steps.{Steps, none as no-steps, step as one-step}
-use Rattle.machine.proofs.Steps.{steps-one-stream, steps-counted}
+use Rattle.machine.specs.Parking.{ParkedCalls}
+use Rattle.machine.proofs.Steps.{steps-one-stream, steps-counted, steps-parked-calls}
 use Rattle.card_layout.specs.Words.{cardIn}
 use Rattle.card_layout.proofs.Cards.{fresh-words}
 use Rattle.card_outcome.specs.declared.Outcome.{Outcome}
@@ -21,7 +21,7 @@ use Rattle.card_outcome.specs.Outcomes.{outcomeOf, Code, damaged}
 use Rattle.card_outcome.specs.Leaves.{outOf, wordsOf, Called}
 use Rattle.card_outcome.proofs.Refusals.{refused-whole, numbered}
 use Rattle.card_outcome.proofs.Every.{Stored, every-call, stored-next, runOf, calls-of, fresh-stored}
-use Rattle.pipeshear.specs.Calls.{Result, shownAs, resultOf, UntouchedOn, Promised}
+use Rattle.pipeshear.specs.Calls.{Result, shownAs, UntouchedOn, Promised}
 use Rattle.pipeshear.specs.Runs.{recordedOn, RanOn, none, call}
 use Rattle.pipeshear.proofs.Results.{wrong-counts-is, wrong-card-is, as-shown, ran}
 
@@ -72,6 +72,9 @@ one-stream-on xs h = steps-one-stream xs (from-zeros h)
 
 pub counted-on : (xs : List Made) → RanOn (replicate cardSize 0) xs → Counted xs
 counted-on xs h = steps-counted xs (from-zeros h)
+
+pub parked-calls-on : (xs : List Made) → RanOn (replicate cardSize 0) xs → ParkedCalls xs
+parked-calls-on xs h = steps-parked-calls xs (from-zeros h)
 
 -- ---- a refusal, whatever was handed in
 

@@ -15,8 +15,9 @@ use Rattle.words.proofs.Ranges.{all-drop}
 use Rattle.machine.specs.Machine.{Call, Seen, cardStep, freshCard}
 use Rattle.machine.specs.Logs.{Made}
 use Rattle.machine.specs.OneStream.{OneStream, Counted}
+use Rattle.machine.specs.Parking.{ParkedCalls}
 use Rattle.machine.specs.Steps.{Steps, none, step}
-use Rattle.machine.proofs.Steps.{steps-one-stream, steps-counted}
+use Rattle.machine.proofs.Steps.{steps-one-stream, steps-counted, steps-parked-calls}
 use Rattle.ciphers.proofs.States.{all-take}
 use Rattle.session.specs.declared.Ended.{Ended}
 use Rattle.session.specs.Progress.{Promised}
@@ -42,19 +43,28 @@ calls-steps (suc k) c a p q =
     first false h = step (record { command = p; tray = q }) h
 
 module _ (commands tray text out : List ℕ) (p : All Byte (take readLength commands)) (q : All Byte (take readLength tray)) where
+  all-steps : Steps freshCard (session commands tray text out)
+  all-steps = calls-steps readLength freshCard (lent commands tray text out) p q
+
   pub session-one-stream : OneStream (session commands tray text out)
-  session-one-stream = steps-one-stream (session commands tray text out) (calls-steps readLength freshCard (lent commands tray text out) p q)
+  session-one-stream = steps-one-stream (session commands tray text out) all-steps
 
   pub session-counted : Counted (session commands tray text out)
-  session-counted = steps-counted (session commands tray text out) (calls-steps readLength freshCard (lent commands tray text out) p q)
+  session-counted = steps-counted (session commands tray text out) all-steps
 
--- Demand 3 of every run of the program, by its promise alone.
+  pub session-parked-calls : ParkedCalls (session commands tray text out)
+  session-parked-calls = steps-parked-calls (session commands tray text out) all-steps
+
+-- Demand 3 of every run of the program, by its promise alone, and what becomes of its parked calls.
 module _ {commands tray text out table out' table' : List ℕ} {r : Ended} (h : Promised commands tray text out table out' table' r) where
   pub run-one-stream : OneStream (session commands tray text out)
   run-one-stream = session-one-stream commands tray text out (all-take readLength (h .command-bytes)) (all-take readLength (h .tray-bytes))
 
   pub run-counted : Counted (session commands tray text out)
   run-counted = session-counted commands tray text out (all-take readLength (h .command-bytes)) (all-take readLength (h .tray-bytes))
+
+  pub run-parked-calls : ParkedCalls (session commands tray text out)
+  run-parked-calls = session-parked-calls commands tray text out (all-take readLength (h .command-bytes)) (all-take readLength (h .tray-bytes))
 
 -- ---- where it ends
 

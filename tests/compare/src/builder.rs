@@ -1,16 +1,16 @@
 //! A command list in the making. Each command is run by the second implementation as it is added, so that the list
-//! knows what stands on its lines, what is left of data and out, and which images its parks have written.
+//! knows what stands on its lines, what is left of data and out, and what became of the images that its parks have
+//! written.
 
-use crate::command::PARK;
+use crate::ledger::{Fate, Ledger};
 use crate::machine::Machine;
 use crate::program::{Files, OUT, READ};
 use crate::random::Random;
 
 pub struct Builder {
     pub random: Random,
-    /// The images that parks have written so far.
-    pub images: Vec<Vec<u8>>,
     machine: Machine,
+    ledger: Ledger,
     cmd: Vec<u8>,
     tray: Vec<u8>,
     data: Vec<u8>,
@@ -25,8 +25,8 @@ impl Builder {
     pub fn new(random: Random, tray: Vec<u8>, data: Vec<u8>) -> Builder {
         Builder {
             random,
-            images: Vec::new(),
             machine: Machine::fresh(),
+            ledger: Ledger::default(),
             cmd: Vec::new(),
             tray,
             data,
@@ -51,9 +51,7 @@ impl Builder {
         let data = &self.data[self.used..self.data.len().min(READ)];
         let out = &mut self.out[self.written..];
         let answer = self.machine.call(command, tray, data, out);
-        if answer.code == 0 && command[0] == PARK {
-            self.images.push(out[..answer.written].to_vec());
-        }
+        self.ledger.note(command, &answer, out);
         self.refused = answer.code != 0;
         self.used += answer.used_data;
         self.written += answer.written;
@@ -88,6 +86,21 @@ impl Builder {
     /// The position of an open line; 0 of an idle one.
     pub fn position(&self, line: u8) -> u64 {
         self.machine.open(line).map_or(0, |(_, position)| position)
+    }
+
+    /// The images that parks have written so far and that have this fate.
+    pub fn images(&self, fate: Fate) -> Vec<Vec<u8>> {
+        self.ledger.images(fate)
+    }
+
+    /// All images that parks have written so far.
+    pub fn all_images(&self) -> Vec<Vec<u8>> {
+        self.ledger.all()
+    }
+
+    /// How many parks were made.
+    pub fn parks(&self) -> u32 {
+        self.machine.parks().made()
     }
 
     /// The files of the list as it stands.

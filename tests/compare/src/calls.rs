@@ -1,9 +1,10 @@
-//! Lists of single calls, each with a command, tray, data and out of its own, and a comparison of any card that
-//! takes one call at a time. A refused call doesn't end such a list.
+//! Single calls, each with a command, tray, data and out of its own, and a comparison of any card that takes one call
+//! at a time. A refused call doesn't end a list of such calls.
 
 use crate::command::{length, CRYPT, IMAGE, PARK};
-use crate::lists;
+use crate::ledger::Ledger;
 use crate::machine::{Answer, Machine};
+use crate::mixed::{self, CallList};
 use crate::named::Case;
 use crate::program::{self, Call};
 use crate::random::Random;
@@ -19,35 +20,8 @@ pub struct OwnCall {
     pub out: Vec<u8>,
 }
 
-/// No more calls than these are taken from one command list.
-const MOST: usize = 150;
-
-/// Call list `number` of `seed`: the calls of three command lists of that seed, mixed, on one card.
-pub fn list(seed: u64, number: u64) -> Vec<OwnCall> {
-    let mut random = Random::new(seed ^ 0xCA11, number);
-    let mut parts: Vec<Vec<OwnCall>> = (0..3).map(|i| part(&mut random, seed, 3 * number + i)).collect();
-    let mut calls = Vec::new();
-    while !parts.is_empty() {
-        let which = random.size(0, parts.len() - 1);
-        match parts[which].pop() {
-            Some(call) => calls.push(call),
-            None => drop(parts.remove(which)),
-        }
-    }
-    calls
-}
-
-/// The calls of a command list, last one first.
-fn part(random: &mut Random, seed: u64, number: u64) -> Vec<OwnCall> {
-    let list = lists::list(seed, number);
-    let run = program::run(&list.files);
-    let mut calls: Vec<OwnCall> = run.calls.iter().take(MOST).map(|(call, _)| own(random, call)).collect();
-    calls.reverse();
-    calls
-}
-
 /// A call with buffers about as long as it needs: some bytes to spare, none, or now and then one too few.
-fn own(random: &mut Random, call: &Call) -> OwnCall {
+pub fn own(random: &mut Random, call: &Call) -> OwnCall {
     let first = call.command.first().copied().unwrap_or(0);
     let count = count(call.command);
     let written = if first == PARK { IMAGE } else { count };
@@ -71,7 +45,7 @@ fn count(command: &[u8]) -> usize {
 }
 
 /// A length at most `most`, near `needed`.
-fn about(random: &mut Random, needed: usize, most: usize) -> usize {
+pub fn about(random: &mut Random, needed: usize, most: usize) -> usize {
     let length = match random.between(0, 19) {
         0 => 0,
         1 => needed.saturating_sub(1),
@@ -85,8 +59,8 @@ fn about(random: &mut Random, needed: usize, most: usize) -> usize {
 pub trait Card {
     fn name(&self) -> String;
 
-    /// Makes the card a fresh one.
-    fn refresh(&mut self);
+    /// Makes the card one with the lines and parks of a machine.
+    fn begin(&mut self, machine: &Machine);
 
     /// One call on the card that the call before left. An error says what it does beside answering.
     fn call(&mut self, command: &[u8], tray: &[u8], data: &[u8], out: &mut [u8]) -> Result<Answer, String>;
@@ -102,8 +76,8 @@ impl Card for Machine {
         "the plain machine".to_string()
     }
 
-    fn refresh(&mut self) {
-        *self = Machine::fresh();
+    fn begin(&mut self, machine: &Machine) {
+        *self = machine.clone();
     }
 
     fn call(&mut self, command: &[u8], tray: &[u8], data: &[u8], out: &mut [u8]) -> Result<Answer, String> {
@@ -127,26 +101,28 @@ impl<C: Card> Subject for CallByCall<C> {
 
     fn hold_case(&mut self, case: &Case) -> Result<Tally, String> {
         let run = program::run(&case.list.files);
-        let tally = self.hold_calls(run.calls.iter().map(|(call, _)| lent(call)));
+        let tally = self.hold_calls(Machine::fresh(), run.calls.iter().map(|(call, _)| lent(call)));
         let tally = tally.map_err(|told| format!("named case \"{}\", {told}", case.name()))?;
         Ok(Tally { named: 1, ..tally })
     }
 
     fn hold(&mut self, seed: u64, number: u64) -> Result<Tally, String> {
-        let tally = self.hold_calls(list(seed, number));
+        let CallList { start, calls } = mixed::list(seed, number);
+        let tally = self.hold_calls(start, calls);
         let tally = tally.map_err(|told| format!("call list {number} of seed {seed}, {told}"))?;
         Ok(Tally { lists: 1, ..tally })
     }
 }
 
 impl<C: Card> CallByCall<C> {
-    /// Makes calls on a fresh card.
-    fn hold_calls(&mut self, calls: impl IntoIterator<Item = OwnCall>) -> Result<Tally, String> {
-        let (mut machine, mut tally) = (Machine::fresh(), Tally::default());
-        self.card.refresh();
-        for (i, call) in calls.into_iter().enumerate() {
-            let answer = hold_call(&mut machine, &mut self.card, &call);
-            tally.count(&answer.map_err(|told| format!("call {}: {told}", i + 1))?);
+    /// Makes calls on a card that begins as the machine does, which must hold no number.
+    fn hold_calls(&mut self, mut machine: Machine, calls: impl IntoIterator<Item = OwnCall>) -> Result<Tally, String> {
+        let (mut tally, mut ledger) = (Tally::default(), Ledger::after(machine.parks().made()));
+        self.card.begin(&machine);
+        for (i, mut call) in calls.into_iter().enumerate() {
+            let answer = hold_call(&mut machine, &mut self.card, &mut call);
+            let answer = answer.map_err(|told| format!("call {}: {told}", i + 1))?;
+            tally.note(&mut ledger, &call.command, &answer, &call.out);
         }
         Ok(tally)
     }
@@ -158,15 +134,16 @@ fn lent(call: &Call) -> OwnCall {
     OwnCall { command, tray, data: call.data.to_vec(), out: vec![0; call.out] }
 }
 
-/// Makes one call on both and compares the answers, out as a whole and the card's words; gives the machine's answer.
-fn hold_call(machine: &mut Machine, card: &mut dyn Card, call: &OwnCall) -> Result<Answer, String> {
-    let (mut wanted_out, mut got_out) = (call.out.clone(), call.out.clone());
-    let wanted = machine.call(&call.command, &call.tray, &call.data, &mut wanted_out);
+/// Makes one call on both and compares the answers, out as a whole and the card's words; gives the machine's answer,
+/// and leaves the call's out as it is after the call.
+fn hold_call(machine: &mut Machine, card: &mut dyn Card, call: &mut OwnCall) -> Result<Answer, String> {
+    let mut got_out = call.out.clone();
+    let wanted = machine.call(&call.command, &call.tray, &call.data, &mut call.out);
     let got = card.call(&call.command, &call.tray, &call.data, &mut got_out)?;
     if wanted != got {
         return Err(format!("the answer is {got:?}, expected {wanted:?}"));
     }
-    if let Some(told) = first_difference(&wanted_out, &got_out) {
+    if let Some(told) = first_difference(&call.out, &got_out) {
         return Err(format!("out: {told}"));
     }
     match card.words().and_then(|got| words::first_difference(&words::of(machine), &got)) {
@@ -180,12 +157,12 @@ mod tests {
     use super::*;
     use crate::named;
 
-    /// A card that is the machine but for what `fault` does, after a call, to the answer and to out, and for some bits
-    /// of its last word.
+    /// A card that is the machine but for what `fault` does, after a call, to the answer and to out, and for the lowest
+    /// bit of a word.
     struct Faulty {
         machine: Machine,
         fault: fn(command: &[u8], &mut Answer, &mut [u8]),
-        bits: u32,
+        word: Option<usize>,
     }
 
     impl Card for Faulty {
@@ -193,8 +170,8 @@ mod tests {
             "a faulty card".to_string()
         }
 
-        fn refresh(&mut self) {
-            self.machine = Machine::fresh();
+        fn begin(&mut self, machine: &Machine) {
+            self.machine = machine.clone();
         }
 
         fn call(&mut self, command: &[u8], tray: &[u8], data: &[u8], out: &mut [u8]) -> Result<Answer, String> {
@@ -205,7 +182,7 @@ mod tests {
 
         fn words(&self) -> Option<Vec<u32>> {
             let mut words = words::of(&self.machine);
-            words[words::CARD - 1] ^= self.bits;
+            self.word.into_iter().for_each(|word| words[word] ^= 1);
             Some(words)
         }
     }
@@ -223,13 +200,13 @@ mod tests {
     }
 
     fn told(fault: fn(&[u8], &mut Answer, &mut [u8])) -> String {
-        held(Faulty { machine: Machine::fresh(), fault, bits: 0 }).unwrap_err()
+        held(Faulty { machine: Machine::fresh(), fault, word: None }).unwrap_err()
     }
 
     #[test]
     fn the_machine_agrees_with_itself_and_meets_every_code() {
         let tally = held(Machine::fresh()).unwrap();
-        assert!(tally.codes.iter().all(|&count| count > 0), "{:?}", tally.codes);
+        assert!(tally.codes.iter().chain(&tally.resumes).all(|&count| count > 0), "{tally:?}");
     }
 
     #[test]
@@ -244,9 +221,16 @@ mod tests {
 
     #[test]
     fn a_word_left_behind_is_found() {
-        let card = Faulty { machine: Machine::fresh(), fault: |_, _, _| (), bits: 1 };
-        let told = held(card).unwrap_err();
-        assert!(told.contains("word 41 of line 7 is 00000001, expected 00000000"), "{told}");
+        let places = [
+            (words::COUNT - 1, "word 41 of line 7"),
+            (words::COUNT, "the count of parks"),
+            (words::CARD - 1, "the number held for line 7"),
+        ];
+        for (word, place) in places {
+            let card = Faulty { machine: Machine::fresh(), fault: |_, _, _| (), word: Some(word) };
+            let told = held(card).unwrap_err();
+            assert!(told.contains(&format!("{place} is 00000001, expected 00000000")), "{told}");
+        }
     }
 
     #[test]

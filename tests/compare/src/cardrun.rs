@@ -1,6 +1,7 @@
 //! The program `cardrun` as a subject: each list is written to a fresh folder, the program is run there, and what
 //! it prints and writes is held against the second implementation.
 
+use crate::ledger::Ledger;
 use crate::lists::{self, List};
 use crate::named::Case;
 use crate::program::{self, Run};
@@ -57,8 +58,10 @@ impl Cardrun {
             fs::remove_dir_all(&folder).map_err(|error| format!("{}: {error}", folder.display()))?;
         }
         outcome?;
-        let mut tally = Tally::default();
-        run.calls.iter().for_each(|(_, answer)| tally.count(answer));
+        let (mut tally, mut ledger) = (Tally::default(), Ledger::default());
+        for (call, answer, out) in run.written() {
+            tally.note(&mut ledger, call.command, answer, out);
+        }
         Ok(tally)
     }
 

@@ -1,14 +1,17 @@
 //! The worked cases, edges and example of document 01, checked of the second implementation before it is used; the
-//! edges of park are those of an image of 161 bytes.
+//! edges of park are those of an image of 165 bytes, and edges of the parks' numbers stand beside them.
 
-use crate::command::{self, IMAGE};
+use crate::command::{self, numbered, IMAGE};
+use crate::images::image;
 use crate::machine::{Answer, Machine, END};
+use crate::parks::Parks;
 use crate::program::{self, Files};
 use crate::{aes, hex, rabbit, snow2, zuc};
 
 /// Checks all cases; tells how many there are, or the first that fails.
 pub fn check() -> Result<usize, String> {
-    let cases: Vec<(&str, bool)> = values().into_iter().chain(edges()).chain(example()).collect();
+    let groups = [values(), edges(), numbers(), example()];
+    let cases: Vec<(&str, bool)> = groups.into_iter().flatten().collect();
     match cases.iter().find(|(_, holds)| !holds) {
         Some((name, _)) => Err(format!("a case of document 01 fails: {name}")),
         None => Ok(cases.len()),
@@ -46,32 +49,57 @@ fn values() -> Vec<(&'static str, bool)> {
 /// The edges, and the acceptances beside them.
 fn edges() -> Vec<(&'static str, bool)> {
     let opened = |tray: usize| code(&[], &command::open_tray(0, 4, 0, &[0; 16]), tray, 0, 0);
-    let last = [command::resume(0, &last_byte())];
-    let own = [command::open_own(7, 2, &[0; 32], &[0; 16])];
+    let last = [open(0), command::park(0), command::resume(0, &image(3, END - 1, 1, &[]))];
+    let own = [open(7)];
     vec![
         ("n = 2^36 - 1 with count 1 is accepted", code(&last, &command::crypt(0, 1), 0, 9, 9) == 0),
         ("n = 2^36 - 1 with count 2 is 13", code(&last, &command::crypt(0, 2), 0, 0, 0) == 13),
         ("a tray of 8,192 passes", opened(8_192) == 0),
         ("a tray of 8,224 is 9", opened(8_224) == 9),
         ("an empty tray is 10", opened(0) == 10),
-        ("out of 160 bytes for park is 12", code(&own, &command::park(7), 0, 0, 160) == 12),
-        ("out of 161 bytes for park is enough", code(&own, &command::park(7), 0, 0, 161) == 0),
+        ("out of 164 bytes for park is 12", code(&own, &command::park(7), 0, 0, 164) == 12),
+        ("out of 165 bytes for park is enough", code(&own, &command::park(7), 0, 0, 165) == 0),
         ("count 0 needs neither data nor out", code(&own, &command::crypt(7, 0), 0, 0, 0) == 0),
         ("an empty command is 1", code(&[], &[], 0, 0, 0) == 1),
         ("an unknown command is 2 though it is short", code(&[], &[7], 0, 0, 0) == 2),
     ]
 }
 
-/// An image of a SNOW line one byte before the end.
-fn last_byte() -> Vec<u8> {
-    command::padded(&[&[3][..], &(END - 1).to_be_bytes()].concat(), IMAGE)
+/// The edges of the parks' numbers.
+fn numbers() -> Vec<(&'static str, bool)> {
+    let some = image(3, 5, 0, &[9; 72]);
+    let resume = |before: &[Vec<u8>], number: u32| code(before, &command::resume(2, &numbered(&some, number)), 0, 0, 0);
+    let once = [open(1), command::park(1)];
+    let twice = [once.clone(), once.clone()].concat();
+    let taken = [&once[..], &[command::resume(1, &numbered(&some, 1))]].concat();
+    vec![
+        ("number 0 is 14", resume(&once, 0) == 14),
+        ("a number that wasn't parked is 14", resume(&[], 1) == 14 && resume(&once, 2) == 14),
+        ("the number of a park is taken", resume(&once, 1) == 0),
+        ("a number that was taken up is 14", resume(&taken, 1) == 14),
+        ("a number that was replaced is 14", resume(&twice, 1) == 14),
+        ("the number that replaced it is taken", resume(&twice, 2) == 0),
+        ("after 4,294,967,294 parks one is accepted", park_after(u32::MAX - 1) == 0),
+        ("after 4,294,967,295 parks one is 15", park_after(u32::MAX) == 15),
+    ]
+}
+
+fn open(line: u8) -> Vec<u8> {
+    command::open_own(line, 2, &[0; 32], &[0; 16])
+}
+
+/// The code of a park on a machine that has made so many.
+fn park_after(made: u32) -> u8 {
+    let mut machine = Machine::with(Parks::of(made, [0; 8]).unwrap_or_default());
+    machine.call(&open(6), &[], &[], &mut []);
+    machine.call(&command::park(6), &[], &[], &mut [0; IMAGE]).code
 }
 
 /// The code of a command after others on a fresh machine, with zeros in tray, data and out of the lengths given; 255
 /// if one of the others is refused or a refusal counts bytes.
 fn code(before: &[Vec<u8>], command: &[u8], tray: usize, data: usize, out: usize) -> u8 {
     let mut machine = Machine::fresh();
-    let accepted = before.iter().all(|earlier| machine.call(earlier, &[], &[], &mut []).code == 0);
+    let accepted = before.iter().all(|earlier| machine.call(earlier, &[], &[], &mut [0; IMAGE]).code == 0);
     let answer = machine.call(command, &vec![0; tray], &vec![0; data], &mut vec![0; out]);
     let counts = answer.code != 0 && answer != Answer::refused(answer.code);
     if accepted && !counts {
@@ -100,6 +128,6 @@ mod tests {
 
     #[test]
     fn cases_hold() {
-        assert_eq!(check(), Ok(29));
+        assert_eq!(check(), Ok(37));
     }
 }

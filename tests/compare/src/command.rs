@@ -7,8 +7,10 @@ pub const PARK: u8 = 4;
 pub const RESUME: u8 = 5;
 pub const CLOSE: u8 = 6;
 
-/// The length of an image.
-pub const IMAGE: usize = 161;
+/// The length of an image, and where the number of its park and the state begin in it.
+pub const IMAGE: usize = 165;
+pub const NUMBER_AT: usize = 9;
+pub const STATE_AT: usize = NUMBER_AT + 4;
 
 /// The length of a tray record, and of the key in command 02.
 pub const RECORD: usize = 32;
@@ -51,6 +53,16 @@ pub fn resume(line: u8, image: &[u8]) -> Vec<u8> {
 
 pub fn close(line: u8) -> Vec<u8> {
     vec![CLOSE, line]
+}
+
+/// The number of the park that an image is from.
+pub fn park_number(image: &[u8]) -> u32 {
+    image[NUMBER_AT..STATE_AT].iter().fold(0, |number, &byte| (number << 8) | u32::from(byte))
+}
+
+/// The image with another number.
+pub fn numbered(image: &[u8], number: u32) -> Vec<u8> {
+    [&image[..NUMBER_AT], &number.to_be_bytes(), &image[STATE_AT..]].concat()
 }
 
 /// `bytes`, then zeros up to `length`.

@@ -2,10 +2,10 @@
 
 use crate::builder::Builder;
 use crate::cipher::LAST;
-use crate::command::{self, CRYPT, OPEN_OWN, OPEN_TRAY, PARK, RECORD, RESUME};
+use crate::command::{self, numbered, park_number, CRYPT, OPEN_OWN, OPEN_TRAY, PARK, RECORD, RESUME};
 use crate::machine::END;
 use crate::plan::Plan;
-use crate::{images, plain, trays};
+use crate::{images, plain, spent, trays};
 
 /// The last command, with the faults that it holds itself.
 pub fn command(b: &mut Builder, plan: &Plan, line: u8) -> Vec<u8> {
@@ -17,8 +17,7 @@ pub fn command(b: &mut Builder, plan: &Plan, line: u8) -> Vec<u8> {
             command::crypt(line, count)
         }
         PARK => command::park(line),
-        RESUME if plan.has(8) => command::resume(line, &images::bad(&mut b.random, plan.image)),
-        RESUME => command::resume(line, &images::elsewhere(&mut b.random)),
+        RESUME => command::resume(line, &image(b, plan)),
         _ => command::close(line),
     };
     if plan.has(2) {
@@ -30,6 +29,19 @@ pub fn command(b: &mut Builder, plan: &Plan, line: u8) -> Vec<u8> {
         command.truncate(length);
     }
     command
+}
+
+/// An image: with fault 14 one whose number isn't held, else one whose number is; with fault 8 a bad one with that
+/// number.
+fn image(b: &mut Builder, plan: &Plan) -> Vec<u8> {
+    let image = if plan.has(14) { spent::image(b, plan.way) } else { plain::held_image(b) };
+    if plan.has(8) {
+        numbered(&images::bad(&mut b.random, plan.image), park_number(&image))
+    } else if !plan.has(14) && b.random.chance(50) {
+        numbered(&images::elsewhere(&mut b.random), park_number(&image))
+    } else {
+        image
+    }
 }
 
 /// A cipher to make operands for; with fault 7, one whose key or IV leaves bytes over.

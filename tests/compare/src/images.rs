@@ -1,15 +1,15 @@
 //! Images that no park of the list has written: well-formed ones at chosen positions, and ones that number 8
-//! refuses.
+//! refuses. All but `image` give them with number 0, in whose place a caller puts the one that is wanted.
 
 use crate::cipher::{by_number, LAST};
-use crate::command::{padded, IMAGE};
+use crate::command::{padded, IMAGE, STATE_AT};
 use crate::machine::END;
 use crate::random::Random;
 use crate::{zeros, zuc};
 
 /// An image of its parts, with zeros after the state.
-pub fn image(cipher: u8, position: u64, state: &[u8]) -> Vec<u8> {
-    padded(&[&[cipher], &position.to_be_bytes()[..], state].concat(), IMAGE)
+pub fn image(cipher: u8, position: u64, number: u32, state: &[u8]) -> Vec<u8> {
+    padded(&[&[cipher], &position.to_be_bytes()[..], &number.to_be_bytes(), state].concat(), IMAGE)
 }
 
 /// A well-formed image of any cipher, mostly at a position where something can go wrong.
@@ -21,8 +21,7 @@ pub fn elsewhere(random: &mut Random) -> Vec<u8> {
 /// A well-formed image of any cipher at a position.
 pub fn at(random: &mut Random, position: u64) -> Vec<u8> {
     let cipher = random.between(1, LAST.into()) as u8;
-    let state = state(random, cipher);
-    image(cipher, position, &state)
+    known(random, cipher, position)
 }
 
 /// A position up to 2^36: small, anywhere, or near a power of two.
@@ -108,8 +107,8 @@ pub fn bad(random: &mut Random, index: usize) -> Vec<u8> {
         9 => bad_cell(random, position, which, 0),
         10 => bad_cell(random, position, which, zuc::TOP + 1),
         11 => bad_cell(random, position, which, u32::MAX),
-        12 => with(known(random, 2, position), 9 + 64, 2),
-        _ => with(known(random, 2, position), 9 + 64, any),
+        12 => with(known(random, 2, position), STATE_AT + 64, 2),
+        _ => with(known(random, 2, position), STATE_AT + 64, any),
     }
 }
 
@@ -122,13 +121,13 @@ fn with(mut image: Vec<u8>, place: usize, byte: u8) -> Vec<u8> {
 /// A well-formed image of one cipher.
 fn known(random: &mut Random, cipher: u8, position: u64) -> Vec<u8> {
     let state = state(random, cipher);
-    image(cipher, position, &state)
+    image(cipher, position, 0, &state)
 }
 
 /// A byte other than 0 after the state. MUGI's state leaves no room for one.
 fn bad_padding(random: &mut Random, position: u64, which: usize) -> Vec<u8> {
     let cipher = random.between(1, 5) as u8;
-    let first = 9 + by_number(cipher).map_or(0, |c| c.shape().state);
+    let first = STATE_AT + by_number(cipher).map_or(0, |c| c.shape().state);
     let place = random.place(which, first, IMAGE - 1);
     let byte = random.odd_byte();
     with(known(random, cipher, position), place, byte)
@@ -137,7 +136,7 @@ fn bad_padding(random: &mut Random, position: u64, which: usize) -> Vec<u8> {
 /// An image of ZUC with this word for one of its cells.
 fn bad_cell(random: &mut Random, position: u64, which: usize, cell: u32) -> Vec<u8> {
     let mut image = known(random, 1, position);
-    let place = 9 + 4 * random.place(which, 0, 15);
+    let place = STATE_AT + 4 * random.place(which, 0, 15);
     image[place..place + 4].copy_from_slice(&cell.to_be_bytes());
     image
 }
@@ -145,19 +144,23 @@ fn bad_cell(random: &mut Random, position: u64, which: usize, cell: u32) -> Vec<
 #[cfg(test)]
 mod tests {
     use super::*;
-    use crate::command;
+    use crate::command::{numbered, resume};
     use crate::machine::Machine;
+    use crate::parks::Parks;
 
-    fn code(image: &[u8]) -> u8 {
-        Machine::fresh().call(&command::resume(3, image), &[], &[], &mut []).code
+    /// The code of a resume with this number on a card that holds number 7.
+    fn code(image: &[u8], number: u32) -> u8 {
+        let mut machine = Machine::with(Parks::of(7, [0, 7, 0, 0, 0, 0, 0, 0]).unwrap());
+        machine.call(&resume(3, &numbered(image, number)), &[], &[], &mut []).code
     }
 
     #[test]
     fn images_are_taken_and_bad_ones_refused() {
         let mut random = Random::new(1, 1);
-        for number in 0..500 {
-            assert_eq!(code(&elsewhere(&mut random)), 0);
-            assert_eq!(code(&bad(&mut random, number)), 8);
+        for index in 0..500 {
+            let (good, bad) = (elsewhere(&mut random), bad(&mut random, index));
+            assert_eq!([7, 0].map(|number| code(&good, number)), [0, 14]);
+            assert_eq!([7, 0].map(|number| code(&bad, number)), [8, 8]);
         }
     }
 }

@@ -13,11 +13,11 @@ pub struct List {
 }
 
 /// The refusals that lists end in, in turn; those that others often hide come more than once.
-const REFUSALS: [u8; 20] = [13, 1, 2, 3, 4, 5, 6, 7, 8, 9, 10, 11, 12, 13, 4, 5, 6, 10, 11, 13];
+const REFUSALS: [u8; 22] = [13, 1, 2, 3, 4, 5, 6, 7, 8, 14, 9, 10, 11, 12, 13, 4, 5, 6, 10, 11, 13, 14];
 
 /// List `number` of `seed`. Of twenty in a row, four are well formed, one is about positions, three end in a
-/// refusal, one in a stray byte, one in a bad image and five with two faults at once, all of them in turn, two are
-/// damaged, two are at a limit of the files, in turn, and one fills out.
+/// refusal, one in a stray byte, one in a bad image, one in a number that isn't held and four with two faults at once,
+/// all of them in turn, two are damaged, two are at a limit of the files, in turn, and one fills out.
 pub fn list(seed: u64, number: u64) -> List {
     let mut random = Random::new(seed, number);
     let stale = random.chance(25).then(|| {
@@ -35,7 +35,8 @@ pub fn list(seed: u64, number: u64) -> List {
         }
         8 => ("stray byte".to_string(), odd::stray(random, turn(8, 1))),
         9 => ("bad image".to_string(), odd::image(random, turn(9, 1))),
-        10..=14 => ("two faults".to_string(), odd::pair(random, turn(10, 5))),
+        10 => ("number not held".to_string(), odd::number(random, turn(10, 1))),
+        11..=14 => ("two faults".to_string(), odd::pair(random, turn(11, 4))),
         15 | 16 => ("damaged".to_string(), damage::list(random)),
         17 | 18 => {
             let edge = turn(17, 2) % edges::KINDS;
@@ -53,7 +54,7 @@ mod tests {
 
     #[test]
     fn each_number_is_met_in_a_hundred_lists() {
-        let mut met = [0; 14];
+        let mut met = [0; 15];
         for number in 0..100 {
             for (_, answer) in program::run(&list(4, number).files).calls {
                 met[usize::from(answer.code)] += 1;

@@ -1,8 +1,10 @@
 //! The plain machine of document 01: eight lines, each idle or with a cipher, a base state, a base unit and a
-//! position. Every keystream byte is found by stepping from the base; nothing else is kept.
+//! position, and the numbers of its parks. Every keystream byte is found by stepping from the base; nothing else is
+//! kept.
 
 use crate::cipher::{by_number, Cipher, State};
-use crate::command::{self, length, CRYPT, IMAGE, OPEN_OWN, OPEN_TRAY, PARK, RECORD, RESUME};
+use crate::command::{self, length, park_number, CRYPT, IMAGE, OPEN_OWN, OPEN_TRAY, PARK, RECORD, RESUME};
+use crate::parks::Parks;
 
 /// No keystream byte has a number of 2^36 or more.
 pub const END: u64 = 1 << 36;
@@ -69,29 +71,32 @@ impl Line {
         bytes
     }
 
-    fn image(&self) -> Vec<u8> {
+    /// The image that the park of this number makes.
+    fn image(&self, number: u32) -> Vec<u8> {
         let state = self.cipher.state_bytes(&self.state());
-        let image = [&[self.cipher.shape().number], &self.position.to_be_bytes()[..], &state].concat();
+        let (position, number) = (self.position.to_be_bytes(), number.to_be_bytes());
+        let image = [&[self.cipher.shape().number], &position[..], &number, &state].concat();
         command::padded(&image, IMAGE)
     }
 
-    /// The line of the image that stands first in `bytes`; nothing where number 8 applies.
+    /// The line of the image that stands first in `bytes`, whatever its number; nothing where number 8 applies.
     fn from_image(bytes: &[u8]) -> Option<Line> {
         let image = &bytes[..IMAGE];
         let cipher = by_number(image[0])?;
         let shape = cipher.shape();
         let position = image[1..9].iter().fold(0, |n, &byte| (n << 8) | u64::from(byte));
-        let (state, padding) = image[9..].split_at(shape.state);
+        let (state, padding) = image[command::STATE_AT..].split_at(shape.state);
         let base = cipher.state_of(state);
         let fits = position <= END && all_zero(padding) && cipher.admits(&base);
         fits.then(|| Line { cipher, base, base_unit: position / shape.unit as u64, position })
     }
 }
 
-/// The machine; a fresh one has all lines idle.
+/// The machine; a fresh one has all lines idle and has made no park.
 #[derive(Clone, Default)]
 pub struct Machine {
     lines: [Option<Line>; 8],
+    parks: Parks,
 }
 
 impl Machine {
@@ -99,7 +104,21 @@ impl Machine {
         Machine::default()
     }
 
-    /// One call. Accepted, it changes one line and the written bytes at the start of `out`; refused, nothing.
+    /// A machine with all lines idle and these parks.
+    pub fn with(parks: Parks) -> Machine {
+        Machine { parks, ..Machine::fresh() }
+    }
+
+    /// Makes an idle line as an image has it, whatever the image's number; tells whether number 8 lets it.
+    pub fn set(&mut self, line: u8, image: &[u8]) -> bool {
+        let made = Line::from_image(image);
+        let fits = made.is_some();
+        self.lines[usize::from(line)] = made;
+        fits
+    }
+
+    /// One call. Accepted, it changes one line, the parks, and the written bytes at the start of `out`; refused,
+    /// nothing.
     pub fn call(&mut self, command: &[u8], tray: &[u8], data: &[u8], out: &mut [u8]) -> Answer {
         match self.refusal(command, tray, data.len(), out.len()) {
             Some(code) => Answer::refused(code),
@@ -121,6 +140,10 @@ impl Machine {
         })
     }
 
+    pub fn parks(&self) -> &Parks {
+        &self.parks
+    }
+
     /// The first number that applies, in document 01's order; nothing if the call is accepted.
     fn refusal(&self, command: &[u8], tray: &[u8], data: usize, out: usize) -> Option<u8> {
         let Some(&kind) = command.first() else {
@@ -137,15 +160,18 @@ impl Machine {
         let opens = kind == OPEN_TRAY || kind == OPEN_OWN;
         let starts = opens || kind == RESUME;
         let past_end = |l: &Line| l.position + count(command) as u64 > END;
-        let rows: [(u8, &dyn Fn() -> bool); 11] = [
+        let held = || self.parks.holds(park_number(&command[2..]));
+        let rows: [(u8, &dyn Fn() -> bool); 13] = [
             (3, &|| line > 7),
             (4, &|| opens && by_number(command[2]).is_none()),
             (5, &|| starts && open.is_some()),
             (6, &|| !starts && open.is_none()),
+            (15, &|| kind == PARK && self.parks.used_up()),
             (9, &|| kind == OPEN_TRAY && (!tray.len().is_multiple_of(RECORD) || tray.len() > TRAY)),
             (10, &|| kind == OPEN_TRAY && RECORD * (usize::from(command[3]) + 1) > tray.len()),
             (7, &|| opens && stray(command, tray)),
             (8, &|| kind == RESUME && Line::from_image(&command[2..]).is_none()),
+            (14, &|| kind == RESUME && !held()),
             (13, &|| kind == CRYPT && open.is_some_and(past_end)),
             (11, &|| kind == CRYPT && data < count(command)),
             (12, &|| kind == CRYPT && out < count(command) || kind == PARK && out < IMAGE),
@@ -159,7 +185,10 @@ impl Machine {
         let mut answer = Answer { used_command: length(command[0]).unwrap_or(0), ..Answer::refused(0) };
         match command[0] {
             OPEN_TRAY | OPEN_OWN => *line = opened(command, tray),
-            RESUME => *line = Line::from_image(&command[2..]),
+            RESUME => {
+                *line = Line::from_image(&command[2..]);
+                self.parks.take_up(park_number(&command[2..]));
+            }
             CRYPT => {
                 let l = line.as_mut().expect("an accepted crypt is on an open line");
                 answer.used_data = count(command);
@@ -171,7 +200,8 @@ impl Machine {
             }
             PARK => {
                 let l = line.take().expect("an accepted park is on an open line");
-                out[..IMAGE].copy_from_slice(&l.image());
+                let number = self.parks.park(usize::from(command[1]));
+                out[..IMAGE].copy_from_slice(&l.image(number));
                 answer.written = IMAGE;
             }
             _ => *line = None,

@@ -40,9 +40,9 @@ fn run(options: &Options) -> Result<(), String> {
     let which = Which { seed: options.seed, lists: options.lists, only: options.only };
     let tally = subject::hold_all(&mut subject, &which, "compare")?;
     print!("{}", report::summary(&tally));
-    let missing = report::missing(&tally);
+    let missing = report::missing(&tally, false);
     if options.only.is_none() && !missing.is_empty() {
-        return Err(format!("never met: {missing:?}"));
+        return Err(format!("never met: {}", missing.join("; ")));
     }
     println!("{}", report::verdict("second", &tally));
     Ok(())

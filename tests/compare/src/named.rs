@@ -1,12 +1,14 @@
 //! Named cases: fixed command lists, each with its end and often its table or the bytes of `out.bin` written down
 //! beside it. What is written down is held of the second implementation, and the subject is held against that.
 
+mod altered;
 mod case;
 mod examples;
 mod frames;
 mod full;
 mod images;
 mod limits;
+mod numbers;
 mod order;
 mod parks;
 mod positions;
@@ -24,6 +26,7 @@ pub fn all() -> Vec<Case> {
         order::cases(),
         frames::cases(),
         parks::cases(),
+        numbers::cases(),
         reuse::cases(),
         positions::cases(),
         images::cases(),
@@ -47,7 +50,7 @@ mod tests {
 
     #[test]
     fn cases_hold_and_have_names_of_their_own() {
-        assert_eq!(check(), Ok(1051));
+        assert_eq!(check(), Ok(1142));
         let cases = all();
         let names: HashSet<&str> = cases.iter().map(Case::name).collect();
         assert_eq!(names.len(), cases.len());

@@ -2,11 +2,11 @@
 //! besides, so that the order of the refusals shows. What is added after it must not be run.
 
 use crate::builder::Builder;
-use crate::command::{self, CLOSE, OPEN_OWN, OPEN_TRAY, RESUME};
+use crate::command::{CLOSE, OPEN_OWN, OPEN_TRAY, RESUME};
 use crate::plan::{self, Plan};
 use crate::program::{Files, READ};
 use crate::random::Random;
-use crate::{faulty, fill, images, plain};
+use crate::{faulty, fill, images, plain, spent};
 
 /// A list whose last command has the fault that `number` names.
 pub fn single(mut random: Random, number: u8) -> Files {
@@ -30,6 +30,12 @@ pub fn image(mut random: Random, index: usize) -> Files {
     list(random, Plan { faults: vec![8], image: index, ..any })
 }
 
+/// A list that ends with a number that isn't held, of all ways to that the one with this index.
+pub fn number(mut random: Random, index: usize) -> Files {
+    let any = Plan::new(&mut random, RESUME, &[]);
+    list(random, Plan { faults: vec![14], way: index, ..any })
+}
+
 /// A list that ends with a stray byte, by this index in an open from the tray or not, in the IV or not, and at its
 /// place there.
 pub fn stray(mut random: Random, index: usize) -> Files {
@@ -50,6 +56,11 @@ fn list(mut random: Random, plan: Plan) -> Files {
         let count = b.random.size(0, 15);
         plain::steps(&mut b, count);
     }
+    match plan.kind {
+        RESUME if plan.has(14) => spent::prepare(&mut b, plan.way),
+        RESUME => drop(plain::held_image(&mut b)),
+        _ => (),
+    }
     let line = line(&mut b, &plan);
     let command = faulty::command(&mut b, &plan, line);
     b.put(&command);
@@ -69,15 +80,15 @@ fn line(b: &mut Builder, plan: &Plan) -> u8 {
     let starts = [OPEN_TRAY, OPEN_OWN, RESUME].contains(&plan.kind);
     let open = if starts { plan.has(5) } else { !plan.has(6) };
     if open && plan.has(13) {
-        let line = idle_line(b);
+        let line = plain::idle_line(b);
         let position = images::near_end(&mut b.random);
         let image = images::at(&mut b.random, position);
-        b.put(&command::resume(line, &image));
+        plain::altered(b, line, &image);
         line
     } else if open {
         open_line(b)
     } else {
-        idle_line(b)
+        plain::idle_line(b)
     }
 }
 
@@ -87,17 +98,6 @@ fn open_line(b: &mut Builder) -> u8 {
     if lines.is_empty() {
         let line = b.random.between(0, 7) as u8;
         plain::open_line(b, line);
-        return line;
-    }
-    b.random.pick(&lines)
-}
-
-/// An idle line; one is closed if there is none.
-fn idle_line(b: &mut Builder) -> u8 {
-    let lines = b.idle_lines();
-    if lines.is_empty() {
-        let line = b.random.between(0, 7) as u8;
-        b.put(&command::close(line));
         return line;
     }
     b.random.pick(&lines)
@@ -114,7 +114,7 @@ mod tests {
 
     #[test]
     fn every_number_is_met() {
-        for number in 1..=13 {
+        for number in 1..=14 {
             let met = |k: &u64| last_code(&single(Random::new(2, *k), number)) == number;
             assert!((0..12).filter(met).count() >= 6, "{number}");
         }

@@ -3,8 +3,9 @@
 
 use crate::builder::Builder;
 use crate::cipher::{by_number, LAST};
-use crate::command::{self, padded, IMAGE, IV, RECORD};
+use crate::command::{self, numbered, padded, park_number, IMAGE, IV, RECORD};
 use crate::images;
+use crate::ledger::Fate;
 use crate::machine::END;
 use crate::program::{Files, READ};
 use crate::random::Random;
@@ -25,7 +26,7 @@ pub fn list(mut random: Random) -> Files {
     b.files()
 }
 
-/// A list about positions: images from elsewhere, near 2^32 and 2^36, with frames up to the end and parks there.
+/// A list about positions: images altered to others, near 2^32 and 2^36, with frames up to the end and parks there.
 /// About half of these lists end with a frame past the end.
 pub fn far(mut random: Random) -> Files {
     let tray = trays::any(&mut random);
@@ -33,7 +34,7 @@ pub fn far(mut random: Random) -> Files {
     let mut b = Builder::new(random, tray, data);
     for line in 0..b.random.size(1, 8) as u8 {
         let image = images::elsewhere(&mut b.random);
-        b.put(&command::resume(line, &image));
+        altered(&mut b, line, &image);
         crypt(&mut b, line);
     }
     let count = b.random.size(2, 40);
@@ -77,7 +78,7 @@ fn step(b: &mut Builder) {
     let choice = b.random.between(0, 99);
     if open.is_empty() || (!idle.is_empty() && choice < 30) {
         let line = b.random.pick(&idle);
-        if choice < 10 {
+        if choice < 18 {
             resume(b, line);
         } else {
             open_line(b, line);
@@ -86,8 +87,8 @@ fn step(b: &mut Builder) {
     }
     let line = b.random.pick(&open);
     match choice {
-        0..=85 => crypt(b, line),
-        86..=95 if b.out_left() >= IMAGE => b.put(&command::park(line)),
+        0..=79 => crypt(b, line),
+        80..=95 if b.out_left() >= IMAGE => b.put(&command::park(line)),
         _ => b.put(&command::close(line)),
     };
 }
@@ -110,11 +111,52 @@ pub fn open_line(b: &mut Builder, line: u8) -> bool {
     b.put(&command::open_own(line, cipher, &key, &iv))
 }
 
-/// Resumes on an idle line: one of the list's own images, perhaps not for the first time, or one from elsewhere.
+/// An idle line; one is closed if there is none.
+pub fn idle_line(b: &mut Builder) -> u8 {
+    let lines = b.idle_lines();
+    if lines.is_empty() {
+        let line = b.random.between(0, 7) as u8;
+        b.put(&command::close(line));
+        return line;
+    }
+    b.random.pick(&lines)
+}
+
+/// Resumes on an idle line, with a number that is held: mostly the image as its park wrote it, else what another park
+/// wrote or an image from elsewhere. Where no number is held, opens the line.
 pub fn resume(b: &mut Builder, line: u8) -> bool {
-    let own = !b.images.is_empty() && b.random.chance(75);
-    let image = if own { b.random.pick(&b.images) } else { images::elsewhere(&mut b.random) };
-    b.put(&command::resume(line, &image))
+    let held = b.images(Fate::Held);
+    if held.is_empty() {
+        return open_line(b, line);
+    }
+    let own = b.random.pick(&held);
+    let image = match b.random.between(0, 9) {
+        0..=5 => own.clone(),
+        6 => b.random.pick(&b.all_images()),
+        _ => images::elsewhere(&mut b.random),
+    };
+    b.put(&command::resume(line, &numbered(&image, park_number(&own))))
+}
+
+/// Resumes an image on an idle line in the place of a parked one, with that one's number.
+pub fn altered(b: &mut Builder, line: u8, image: &[u8]) -> bool {
+    let held = held_image(b);
+    b.put(&command::resume(line, &numbered(image, park_number(&held))))
+}
+
+/// The image of a park that is held; a call is parked for it where there is none. There must be room for that in out.
+pub fn held_image(b: &mut Builder) -> Vec<u8> {
+    if b.images(Fate::Held).is_empty() {
+        park_one(b);
+    }
+    let held = b.images(Fate::Held);
+    b.random.pick(&held)
+}
+
+/// Opens an idle line and parks it.
+pub fn park_one(b: &mut Builder) -> bool {
+    let line = idle_line(b);
+    open_line(b, line) && b.put(&command::park(line))
 }
 
 /// Enciphers a frame on an open line, as long as data, out and the line's position allow.

@@ -3,16 +3,16 @@
 
 use crate::command::{CLOSE, CRYPT, OPEN_OWN, OPEN_TRAY, PARK, RESUME};
 use crate::random::Random;
-use crate::{images, trays};
+use crate::{images, spent, trays};
 
-/// The numbers that a command of each kind can be refused with, in their order.
+/// The numbers that a command of each kind can be refused with on a card that began as a fresh one, in their order.
 pub fn numbers(kind: u8) -> &'static [u8] {
     match kind {
         OPEN_TRAY => &[1, 2, 3, 4, 5, 9, 10, 7],
         OPEN_OWN => &[1, 2, 3, 4, 5, 7],
         CRYPT => &[1, 2, 3, 6, 13, 11, 12],
         PARK => &[1, 2, 3, 6, 12],
-        RESUME => &[1, 2, 3, 5, 8],
+        RESUME => &[1, 2, 3, 5, 8, 14],
         _ => &[1, 2, 3, 6],
     }
 }
@@ -34,6 +34,8 @@ pub struct Plan {
     pub faults: Vec<u8>,
     /// For number 8: the image's fault.
     pub image: usize,
+    /// For number 14: in which way the image's number isn't held.
+    pub way: usize,
     /// For number 7: whether the stray byte is in the IV, and which place it has.
     pub in_iv: bool,
     pub place: usize,
@@ -46,8 +48,8 @@ impl Plan {
         if random.chance(20) {
             faults.push(random.pick(numbers(kind)));
         }
-        let image = random.size(0, 3 * images::FAULTS - 1);
-        Plan { kind, faults, image, in_iv: random.chance(40), place: random.size(0, 2) }
+        let (image, way) = (random.size(0, 3 * images::FAULTS - 1), random.size(0, spent::WAYS - 1));
+        Plan { kind, faults, image, way, in_iv: random.chance(40), place: random.size(0, 2) }
     }
 
     pub fn has(&self, number: u8) -> bool {

@@ -59,6 +59,16 @@ pub fn run(files: &Files) -> Run<'_> {
 }
 
 impl Run<'_> {
+    /// The calls with their answers and the bytes that each wrote.
+    pub fn written(&self) -> impl Iterator<Item = (&Call<'_>, &Answer, &[u8])> {
+        let mut rest = self.out.as_slice();
+        self.calls.iter().map(move |(call, answer)| {
+            let (own, after) = rest.split_at(answer.written);
+            rest = after;
+            (call, answer, own)
+        })
+    }
+
     /// The table that the program prints.
     pub fn table(&self) -> String {
         let mut text = String::from("call code cmd data out\n");

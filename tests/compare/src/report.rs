@@ -1,5 +1,6 @@
 //! What is said while lists run and at the end.
 
+use crate::ledger::Resume;
 use crate::subject::Tally;
 use std::io::{self, IsTerminal};
 
@@ -27,7 +28,8 @@ impl Progress {
     }
 }
 
-/// The summary: named cases, lists, calls, bytes enciphered, and how often each number was met; 255 only if it was.
+/// The summary: named cases, lists, calls, bytes enciphered, how often each number was met, 255 only if it was, and how
+/// often each kind of resume.
 pub fn summary(tally: &Tally) -> String {
     let mut text = format!("named cases {}\nlists {}\ncalls {}\n", tally.named, tally.lists, tally.calls);
     text.push_str(&format!("bytes enciphered {}\n", tally.bytes));
@@ -38,12 +40,21 @@ pub fn summary(tally: &Tally) -> String {
     if tally.damaged > 0 {
         text.push_str(&format!("255 {}\n", tally.damaged));
     }
+    text.push_str("resume met\n");
+    for (name, count) in Resume::NAMES.iter().zip(tally.resumes) {
+        text.push_str(&format!("{name}: {count}\n"));
+    }
     text
 }
 
-/// The numbers of 0 to 13 that were never met.
-pub fn missing(tally: &Tally) -> Vec<usize> {
-    (0..tally.codes.len()).filter(|&number| tally.codes[number] == 0).collect()
+/// The numbers and the kinds of resume that were never met. Number 15, 255 and an image from before the list are asked
+/// for only if cards are handed in: a fresh card doesn't come to them.
+pub fn missing(tally: &Tally, handed_in: bool) -> Vec<String> {
+    let numbers = (0..16).zip(tally.codes).chain([(255, tally.damaged)]);
+    let numbers = numbers.filter(|&(number, count)| count == 0 && (handed_in || number < 15));
+    let kinds = Resume::NAMES.iter().enumerate().filter(|&(kind, _)| tally.resumes[kind] == 0);
+    let kinds = kinds.filter(|&(kind, _)| handed_in || kind != Resume::Earlier as usize);
+    numbers.map(|(number, _)| number.to_string()).chain(kinds.map(|(_, name)| format!("resume: {name}"))).collect()
 }
 
 /// The last line of a run in which nothing differed, for the part of the tests that it is: the named cases, if any, and
@@ -56,7 +67,7 @@ pub fn verdict(part: &str, tally: &Tally) -> String {
     }
 }
 
-/// A number and what it counts, as "1 list" and "1,051 cases".
+/// A number and what it counts, as "1 list" and "1,142 cases".
 fn counted(count: u64, what: &str) -> String {
     let ending = if count == 1 { "" } else { "s" };
     format!("{} {what}{ending}", grouped(count))
@@ -75,9 +86,20 @@ mod tests {
     use super::*;
 
     #[test]
+    fn what_was_never_met_is_told() {
+        let mut tally = Tally { codes: [1; 16], damaged: 1, resumes: [1; 8], ..Tally::default() };
+        assert!(missing(&tally, true).is_empty());
+        (tally.codes[14], tally.codes[15], tally.damaged) = (0, 0, 0);
+        (tally.resumes[2], tally.resumes[7]) = (0, 0);
+        assert_eq!(missing(&tally, false), ["14", "resume: 14, number 0"]);
+        let all = ["14", "15", "255", "resume: 14, number 0", "resume: 14, from before the list"];
+        assert_eq!(missing(&tally, true), all);
+    }
+
+    #[test]
     fn the_verdict_has_what_was_run() {
         let said = |named, lists| verdict("second", &Tally { named, lists, ..Tally::default() });
-        assert_eq!(said(1_051, 500), "second: 1,051 cases and 500 lists, no difference");
+        assert_eq!(said(1_142, 500), "second: 1,142 cases and 500 lists, no difference");
         assert_eq!(said(1, 0), "second: 1 case and 0 lists, no difference");
         assert_eq!(said(0, 1), "second: 1 list, no difference");
     }

@@ -2,20 +2,23 @@
 //! implementation.
 //! `cardrun` as a process is one; anything with a function for one call can be another.
 
+use crate::ledger::{Ledger, Resume};
 use crate::machine::Answer;
 use crate::named::{self, Case};
 use crate::report::Progress;
 
-/// What lists came to by the second implementation: named cases, lists of the seed, calls of both, the bytes that
-/// their crypts took, and how often each code was met, 255 for a damaged card apart from the others.
+/// What lists came to by the second implementation: named cases, lists of the seed, calls of both, the bytes that their
+/// crypts took, how often each code was met, 255 for a damaged card apart from the others, and how often each kind of
+/// resume on a card whose parks are known.
 #[derive(Clone, Debug, Default, PartialEq, Eq)]
 pub struct Tally {
     pub named: u64,
     pub lists: u64,
     pub calls: u64,
     pub bytes: u64,
-    pub codes: [u64; 14],
+    pub codes: [u64; 16],
     pub damaged: u64,
+    pub resumes: [u64; Resume::NAMES.len()],
 }
 
 impl Tally {
@@ -27,13 +30,22 @@ impl Tally {
         *count += 1;
     }
 
+    /// Counts a call of a list whose parks the ledger has.
+    pub fn note(&mut self, ledger: &mut Ledger, command: &[u8], answer: &Answer, out: &[u8]) {
+        self.count(answer);
+        if let Some(resume) = ledger.note(command, answer, out) {
+            self.resumes[resume as usize] += 1;
+        }
+    }
+
     pub fn add(&mut self, other: &Tally) {
         self.named += other.named;
         self.lists += other.lists;
         self.calls += other.calls;
         self.bytes += other.bytes;
         self.damaged += other.damaged;
-        for (sum, count) in self.codes.iter_mut().zip(other.codes) {
+        let (sums, counts) = (self.codes.iter_mut().chain(&mut self.resumes), other.codes.iter().chain(&other.resumes));
+        for (sum, count) in sums.zip(counts) {
             *sum += count;
         }
     }

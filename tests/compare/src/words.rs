@@ -1,22 +1,32 @@
 //! The card as words that a program in C or Rust keeps: eight lines alike, each the mode (1 of an open line), the
 //! cipher's number, the position in two words, the high one first, and the state bytes as big-endian words with zeros
-//! after them. An idle line is all zeros.
+//! after them; then the count of the parks made, and for each line the number that is held. An idle line is all zeros,
+//! whether a number is held for it or not.
 
 use crate::cipher;
-use crate::command::{padded, resume};
+use crate::command::padded;
 use crate::machine::{Machine, Seen};
+use crate::parks::Parks;
 
 /// Where the state stands in a line, and how many words it has.
 pub const STATE: usize = 4;
 pub const STATE_WORDS: usize = 38;
 
-/// The words of a line, and those of a card.
+/// The words of a line.
 pub const LINE: usize = STATE + STATE_WORDS;
-pub const CARD: usize = 8 * LINE;
 
-/// The words of a card with the machine's lines.
+/// Where the count of parks stands in a card, and where the held numbers begin.
+pub const COUNT: usize = 8 * LINE;
+pub const HELD: usize = COUNT + 1;
+
+/// The words of a card.
+pub const CARD: usize = HELD + 8;
+
+/// The words of a card with the machine's lines and parks.
 pub fn of(machine: &Machine) -> Vec<u32> {
-    (0..8).flat_map(|line| machine.seen(line).map_or(vec![0; LINE], open_line)).collect()
+    let lines = (0..8).flat_map(|line| machine.seen(line).map_or(vec![0; LINE], open_line));
+    let parks = machine.parks();
+    lines.chain([parks.made()]).chain(parks.held()).collect()
 }
 
 fn open_line(seen: Seen) -> Vec<u32> {
@@ -25,17 +35,16 @@ fn open_line(seen: Seen) -> Vec<u32> {
     [vec![1, u32::from(seen.cipher), high, low], state].concat()
 }
 
-/// The machine with the lines that the words of a card hold; nothing where they are no card, which is what 255 says. An
-/// open line is judged as an image with its cipher, position and state.
+/// The machine with the lines and parks that the words of a card hold; nothing where they are no card, which is what
+/// 255 says. An open line is judged as an image with its cipher, position and state.
 pub fn machine(card: &[u32]) -> Option<Machine> {
-    if card.len() != CARD {
-        return None;
-    }
-    let mut machine = Machine::fresh();
-    for (number, line) in (0..).zip(card.chunks_exact(LINE)) {
+    let card: &[u32; CARD] = card.try_into().ok()?;
+    let held: [u32; 8] = card[HELD..].try_into().ok()?;
+    let mut machine = Machine::with(Parks::of(card[COUNT], held)?);
+    for (number, line) in (0..).zip(card[..COUNT].chunks_exact(LINE)) {
         let taken = match line[0] {
             0 => line.iter().all(|&word| word == 0),
-            1 => image(line).is_some_and(|image| machine.call(&resume(number, &image), &[], &[], &mut []).code == 0),
+            1 => image(line).is_some_and(|image| machine.set(number, &image)),
             _ => false,
         };
         if !taken {
@@ -45,10 +54,11 @@ pub fn machine(card: &[u32]) -> Option<Machine> {
     Some(machine)
 }
 
-/// The image of an open line; nothing if the cipher isn't a byte.
+/// The image of an open line, with 0 for a number; nothing if the cipher isn't a byte.
 fn image(line: &[u32]) -> Option<Vec<u8>> {
     let cipher = u8::try_from(line[1]).ok()?;
-    let rest = line[2..].iter().flat_map(|word| word.to_be_bytes());
+    let (position, state) = line[2..].split_at(STATE - 2);
+    let rest = [position, &[0], state].concat().into_iter().flat_map(|word| word.to_be_bytes());
     Some([cipher].into_iter().chain(rest).collect())
 }
 
@@ -57,10 +67,17 @@ pub fn first_difference(wanted: &[u32], got: &[u32]) -> Option<String> {
     let same = wanted.iter().zip(got).take_while(|(a, b)| a == b).count();
     match (wanted.get(same), got.get(same)) {
         (None, None) => None,
-        (Some(a), Some(b)) => {
-            Some(format!("word {} of line {} is {b:08x}, expected {a:08x}", same % LINE, same / LINE))
-        }
+        (Some(a), Some(b)) => Some(format!("{} is {b:08x}, expected {a:08x}", place(same))),
         _ => Some(format!("the card has {} words, expected {}", got.len(), wanted.len())),
+    }
+}
+
+/// What stands in a word of a card.
+fn place(word: usize) -> String {
+    match word {
+        0..COUNT => format!("word {} of line {}", word % LINE, word / LINE),
+        COUNT => "the count of parks".to_string(),
+        _ => format!("the number held for line {}", word - HELD),
     }
 }
 
@@ -71,11 +88,11 @@ mod tests {
     use crate::machine::END;
     use crate::random::Random;
 
-    /// A machine with an image from elsewhere on each line but the last.
+    /// A machine with an image from elsewhere on each line but the last, nine parks made, and three numbers held.
     fn some(random: &mut Random) -> Machine {
-        let mut machine = Machine::fresh();
+        let mut machine = Machine::with(Parks::of(9, [0, 4, 0, 0, 9, 0, 0, 1]).unwrap());
         for line in 0..7 {
-            assert_eq!(machine.call(&resume(line, &images::elsewhere(random)), &[], &[], &mut []).code, 0);
+            assert!(machine.set(line, &images::elsewhere(random)));
         }
         machine
     }
@@ -92,21 +109,27 @@ mod tests {
 
     #[test]
     fn words_stand_in_their_places() {
-        let mut machine = Machine::fresh();
+        let mut machine = Machine::with(Parks::of(7, [6, 0, 0, 0, 0, 0, 0, 5]).unwrap());
         let state = [[0xAA; 64].as_slice(), &[1]].concat();
-        machine.call(&resume(1, &images::image(2, END - 1, &state)), &[], &[], &mut []);
+        assert!(machine.set(1, &images::image(2, END - 1, 0xBBBB_BBBB, &state)));
         let words = of(&machine);
         assert_eq!(words[LINE..LINE + 5], [1, 2, 0xF, 0xFFFF_FFFF, 0xAAAA_AAAA]);
         assert_eq!(words[LINE + 19..LINE + 21], [0xAAAA_AAAA, 0x0100_0000]);
-        assert!(words[..LINE].iter().chain(&words[LINE + 21..]).all(|&word| word == 0));
+        assert!(words[..LINE].iter().chain(&words[LINE + 21..COUNT]).all(|&word| word == 0));
+        assert_eq!(words[336..], [7, 6, 0, 0, 0, 0, 0, 0, 5]);
     }
 
     #[test]
     fn other_words_are_no_card() {
         let words = of(&some(&mut Random::new(6, 1)));
         let with = |place: usize, word: u32| machine(&[&words[..place], &[word], &words[place + 1..]].concat());
-        for (place, word) in [(0, 2), (0, 0), (0, 257), (1, 0), (1, 7), (1, 257), (2, 17), (CARD - 1, 1)] {
+        let lines = [(0, 2), (0, 0), (0, 257), (1, 0), (1, 7), (1, 257), (2, 17), (COUNT - 1, 1)];
+        let parks = [(COUNT, 8), (COUNT, 0), (HELD, 10), (HELD + 7, u32::MAX), (HELD, 1), (HELD + 3, 9), (HELD + 4, 4)];
+        for (place, word) in lines.into_iter().chain(parks) {
             assert!(with(place, word).is_none(), "{place} {word}");
+        }
+        for (place, word) in [(COUNT, 10), (COUNT, u32::MAX), (HELD, 8), (HELD + 4, 0), (HELD + 4, 2)] {
+            assert!(with(place, word).is_some(), "{place} {word}");
         }
         assert!(machine(&words[1..]).is_none());
         assert!(machine(&[]).is_none());
@@ -114,8 +137,10 @@ mod tests {
 
     #[test]
     fn differences_are_found() {
-        let told = first_difference(&[0; CARD], &[&[0; LINE + 3][..], &[9], &[0; CARD - LINE - 4]].concat());
-        assert_eq!(told.unwrap(), "word 3 of line 1 is 00000009, expected 00000000");
+        let told = |at: usize| first_difference(&[0; CARD], &[vec![0; at], vec![9], vec![0; CARD - at - 1]].concat());
+        assert_eq!(told(LINE + 3).unwrap(), "word 3 of line 1 is 00000009, expected 00000000");
+        assert_eq!(told(336).unwrap(), "the count of parks is 00000009, expected 00000000");
+        assert_eq!(told(344).unwrap(), "the number held for line 7 is 00000009, expected 00000000");
         assert_eq!(first_difference(&[1, 2], &[1]).unwrap(), "the card has 1 words, expected 2");
         assert_eq!(first_difference(&[1, 2], &[1, 2]), None);
     }

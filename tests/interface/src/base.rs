@@ -1,5 +1,6 @@
-//! A card with a line for each cipher, one that is a byte before the end and one that is idle, and calls that meet
-//! every code on it. It can be turned, so that what stood on line 0 stands on another.
+//! A card with a line for each cipher, one that is a byte before the end and one that is idle, and with numbers of
+//! parks that are held, taken up and replaced; and calls that meet every code on it but 15. It can be turned, so that
+//! what stood on line 0 stands on another.
 
 use compare::calls::OwnCall;
 use compare::cipher::{by_number, LAST};
@@ -18,6 +19,13 @@ pub const IDLE: u8 = 7;
 /// The cipher of the line that is late.
 pub const LATE_CIPHER: u8 = 3;
 
+/// The numbers of the parks: one that was taken up, one that a later park replaced, and those that are held for three
+/// lines. The last is the count.
+pub const TAKEN_UP: u32 = 1;
+pub const REPLACED: u32 = 2;
+pub const HELD: [(u8, u32); 3] = [(IDLE, 3), (KCIPHER2, 4), (RABBIT, 5)];
+pub const COUNT: u32 = 5;
+
 /// The line on which something stands after so many turns.
 pub fn line(what: u8, turn: u8) -> u8 {
     (what + turn) % 8
@@ -26,16 +34,25 @@ pub fn line(what: u8, turn: u8) -> u8 {
 /// The card.
 pub fn machine(turn: u8) -> Machine {
     let mut machine = Machine::fresh();
-    let mut accept = |command: &[u8], data: &[u8]| {
-        let code = machine.call(command, &[], data, &mut vec![0; data.len()]).code;
+    let mut accept = |command: &[u8]| {
+        let code = machine.call(command, &[], &[0; 31], &mut [0; IMAGE]).code;
         assert_eq!(code, 0, "the card is made with accepted commands");
     };
-    for cipher in 1..=LAST {
-        accept(&open(line(cipher - 1, turn), cipher), &[]);
-        accept(&command::crypt(line(cipher - 1, turn), 5 * u16::from(cipher) + 1), &[0; 31]);
+    for what in [LATE, IDLE, IDLE, KCIPHER2, RABBIT] {
+        accept(&open(line(what, turn), 2));
+        accept(&command::park(line(what, turn)));
     }
-    accept(&command::resume(line(LATE, turn), &image(LATE_CIPHER, END - 1, &[7; 72])), &[]);
+    for cipher in 1..=LAST {
+        accept(&open(line(cipher - 1, turn), cipher));
+        accept(&command::crypt(line(cipher - 1, turn), 5 * u16::from(cipher) + 1));
+    }
+    accept(&command::resume(line(LATE, turn), &image(LATE_CIPHER, END - 1, TAKEN_UP, &[7; 72])));
     machine
+}
+
+/// A well-formed image of SNOW 2.0 with a number.
+fn some(number: u32) -> Vec<u8> {
+    image(3, 1, number, &[9; 72])
 }
 
 /// Command 02 with a key and an IV of the cipher's lengths.
@@ -71,8 +88,8 @@ fn accepted(turn: u8) -> Vec<(u8, OwnCall)> {
         empty_crypt(turn),
         command::park(line(RABBIT, turn)),
         command::park(line(MUGI, turn)),
-        command::resume(idle, &image(3, 1, &[9; 72])),
-        command::resume(idle, &image(6, 1, &[9; 152])),
+        command::resume(idle, &some(HELD[0].1)),
+        command::resume(idle, &image(6, 1, HELD[1].1, &[9; 152])),
         command::close(line(KCIPHER2, turn)),
     ];
     commands.map(|command| (0, call(command))).into()
@@ -85,7 +102,8 @@ fn unread(turn: u8) -> Vec<(u8, OwnCall)> {
         (1, vec![]),
         (1, vec![3, idle, 0]),
         (1, open(idle, 1)[..50].to_vec()),
-        (1, command::resume(idle, &image(3, 1, &[9; 72])[..IMAGE - 1])),
+        (1, command::resume(idle, &some(HELD[0].1)[..IMAGE - 1])),
+        (1, command::resume(idle, &some(HELD[0].1)[..161])),
         (2, vec![0; 2 + IMAGE]),
         (2, vec![7]),
         (3, command::close(8)),
@@ -96,12 +114,14 @@ fn unread(turn: u8) -> Vec<(u8, OwnCall)> {
     calls.map(|(code, command)| (code, call(command))).into()
 }
 
-/// Refusals that the lines, the key, the IV or the image decide.
+/// Refusals that the lines, the key, the IV, the image or its number decide.
 fn unfit(turn: u8) -> Vec<(u8, OwnCall)> {
     let (busy, idle) = (line(ZUC, turn), line(IDLE, turn));
+    let held = HELD[0].1;
     let calls = [
         (5, open(busy, 1)),
-        (5, command::resume(busy, &image(3, 1, &[9; 72]))),
+        (5, command::resume(busy, &some(held))),
+        (5, command::resume(busy, &some(0))),
         (6, command::crypt(idle, 0)),
         (6, command::crypt(idle, 9)),
         (6, command::park(idle)),
@@ -109,8 +129,15 @@ fn unfit(turn: u8) -> Vec<(u8, OwnCall)> {
         (7, command::open_own(idle, 1, &[1; RECORD], &[0; IV])),
         (7, command::open_tray(idle, 2, 0, &[1; IV])),
         (8, command::resume(idle, &[0; IMAGE])),
-        (8, command::resume(idle, &image(3, END + 1, &[9; 72]))),
-        (8, command::resume(idle, &image(5, 1, &[9; 81]))),
+        (8, command::resume(idle, &image(3, END + 1, held, &[9; 72]))),
+        (8, command::resume(idle, &image(5, 1, held, &[9; 81]))),
+        (8, command::resume(idle, &image(3, END + 1, TAKEN_UP, &[9; 72]))),
+        (14, command::resume(idle, &some(0))),
+        (14, command::resume(idle, &some(TAKEN_UP))),
+        (14, command::resume(idle, &some(REPLACED))),
+        (14, command::resume(idle, &some(COUNT + 1))),
+        (14, command::resume(idle, &some(held << 8))),
+        (14, command::resume(idle, &some(u32::MAX))),
         (10, command::open_tray(idle, 1, 1, &[0; IV])),
         (11, command::crypt(busy, 11)),
         (13, command::crypt(line(LATE, turn), 2)),

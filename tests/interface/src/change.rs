@@ -1,21 +1,30 @@
-//! A named change to the card of `base`, in some words of one of its lines.
+//! A named change to the card of `base`, in some words of one of its lines or in its parks.
 
 use crate::base;
 use crate::held;
 use crate::lent::COUNTS;
 use compare::subject::Tally;
-use compare::words::{self, LINE};
+use compare::words::{self, COUNT, HELD, LINE};
 
-/// A change: what it is called, what stands on its line, and the new words with their places in the line.
+/// A change: what it is called, what stands on its line, and the new words with their places in the line; new numbers,
+/// with what stands on the lines that they are held for; and a new count of parks.
 pub struct Change {
     pub name: String,
     pub what: u8,
     pub words: Vec<(usize, u32)>,
+    pub held: Vec<(u8, u32)>,
+    pub count: Option<u32>,
 }
 
 impl Change {
     pub fn new(name: impl Into<String>, what: u8, words: &[(usize, u32)]) -> Change {
-        Change { name: name.into(), what, words: words.to_vec() }
+        Change { name: name.into(), what, words: words.to_vec(), held: Vec::new(), count: None }
+    }
+
+    /// A change in the parks alone; its line is that of the first number.
+    pub fn parks(name: impl Into<String>, held: &[(u8, u32)], count: Option<u32>) -> Change {
+        let what = held.first().map_or(0, |(what, _)| *what);
+        Change { held: held.to_vec(), count, ..Change::new(name, what, &[]) }
     }
 
     /// Holds all calls of `base` on the changed card, the change on each line in turn. Whether it damages the card is
@@ -24,7 +33,7 @@ impl Change {
         let mut tally = Tally::default();
         for turn in 0..8 {
             let line = base::line(self.what, turn);
-            let told = |told| format!("card with a changed line {line} ({}), {told}", self.name);
+            let told = |told| format!("card changed at line {line} ({}), {told}", self.name);
             self.hold_turned(turn, damaged, &mut tally).map_err(told)?;
             tally.named += 1;
         }
@@ -33,9 +42,14 @@ impl Change {
 
     fn hold_turned(&self, turn: u8, damaged: bool, tally: &mut Tally) -> Result<(), String> {
         let mut card = words::of(&base::machine(turn));
+        let line = |what: u8| usize::from(base::line(what, turn));
         for (place, word) in &self.words {
-            card[LINE * usize::from(base::line(self.what, turn)) + place] = *word;
+            card[LINE * line(self.what) + place] = *word;
         }
+        for (what, number) in &self.held {
+            card[HELD + line(*what)] = *number;
+        }
+        card[COUNT] = self.count.unwrap_or(card[COUNT]);
         for (code, call) in base::calls(turn) {
             let told = |told| format!("the call that has code {code} before the change: {told}");
             let answer = held::hold(&card, &call, &COUNTS).map_err(told)?;

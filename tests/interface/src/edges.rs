@@ -1,7 +1,7 @@
-//! Cards that are just well formed: states and positions at the ends of their ranges. 255 is not said of them, and
-//! calls go on from what they hold.
+//! Cards that are just well formed: states, positions and numbers of parks at the ends of their ranges. 255 is not said
+//! of them, and calls go on from what they hold.
 
-use crate::base::{IDLE, KCIPHER2, LATE, MUGI, RABBIT, ZUC};
+use crate::base::{self, IDLE, KCIPHER2, LATE, MUGI, RABBIT, ZUC};
 use crate::change::{hold_all, Change};
 use compare::subject::Tally;
 use compare::words::{LINE, STATE};
@@ -9,7 +9,34 @@ use compare::zuc::TOP;
 
 /// Holds the linked card on all of them, each on every line.
 pub fn hold() -> Result<Tally, String> {
-    hold_all(&changes(), false)
+    let all: Vec<Change> = changes().into_iter().chain(parks()).collect();
+    hold_all(&all, false)
+}
+
+/// Numbers that are held or not, up to the count, and counts up to the last park. After that one, parks are refused.
+fn parks() -> Vec<Change> {
+    let none: Vec<(u8, u32)> = base::HELD.iter().map(|(what, _)| (*what, 0)).collect();
+    let all = |first: u32| (0..8).map(|what| (what, first + u32::from(what))).collect::<Vec<_>>();
+    let (last, before) = (Some(u32::MAX), Some(u32::MAX - 1));
+    let mut changes = vec![
+        Change::parks("parks made and no number held", &none, None),
+        Change::parks("no park made", &none, Some(0)),
+        Change::parks("a number held again that was taken up", &[(LATE, base::TAKEN_UP)], None),
+        Change::parks("a number held again that was replaced", &[(MUGI, base::REPLACED)], None),
+        Change::parks("a number for each line", &all(1), Some(8)),
+        Change::parks("the last eight numbers", &all(u32::MAX - 7), last),
+        Change::parks("the last eight numbers but one", &all(u32::MAX - 8), before),
+        Change::parks("as many parks as there are numbers", &[], last),
+        Change::parks("as many parks as there are numbers, none held", &none, last),
+        Change::parks("one park less than there are numbers", &[], before),
+        Change::parks("a count of 2^31", &[], Some(1 << 31)),
+    ];
+    for what in 0..8 {
+        let name = format!("the number of the last park for line {what}");
+        changes.push(Change::parks(&name, &[(what, 9)], Some(9)));
+        changes.push(Change::parks(name + " of all", &[(what, u32::MAX)], last));
+    }
+    changes
 }
 
 /// The head of an open line, and a state that begins with so many words alike.

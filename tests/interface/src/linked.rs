@@ -4,7 +4,7 @@
 use crate::lent::{self, COUNTS};
 use crate::struck;
 use compare::calls::{CallByCall, Card, OwnCall};
-use compare::machine::Answer;
+use compare::machine::{Answer, Machine};
 use compare::named::Case;
 use compare::subject::{Subject, Tally};
 use compare::words;
@@ -19,8 +19,8 @@ impl Card for Linked {
         "libpipeshear.a".to_string()
     }
 
-    fn refresh(&mut self) {
-        self.words = vec![0; words::CARD];
+    fn begin(&mut self, machine: &Machine) {
+        self.words = words::of(machine);
     }
 
     fn call(&mut self, command: &[u8], tray: &[u8], data: &[u8], out: &mut [u8]) -> Result<Answer, String> {

@@ -13,6 +13,7 @@ mod held;
 mod lengths;
 mod lent;
 mod linked;
+mod numbers;
 mod room;
 mod struck;
 
@@ -46,9 +47,9 @@ fn run(options: &Options) -> Result<(), String> {
     let which = Which { seed: options.seed, lists: options.lists, only: options.only };
     tally.add(&subject::hold_all(&mut Interface::default(), &which, "tests/linked")?);
     print!("{}", report::summary(&tally));
-    let missing = missing(&tally);
+    let missing = report::missing(&tally, true);
     if options.only.is_none() && !missing.is_empty() {
-        return Err(format!("never met: {missing:?}"));
+        return Err(format!("never met: {}", missing.join("; ")));
     }
     println!("{}", report::verdict("linked", &tally));
     Ok(())
@@ -56,18 +57,17 @@ fn run(options: &Options) -> Result<(), String> {
 
 /// The named cards, each with calls that would meet every other code.
 fn named() -> Result<Tally, String> {
-    let (damages, edges, lengths) = (damages::hold()?, edges::hold()?, lengths::hold()?);
-    println!("damaged cards: {} agree", damages.named);
-    println!("cards that are just well formed: {} agree", edges.named);
-    println!("other lengths of card and counts: {} agree", lengths.named);
-    let mut sum = damages;
-    sum.add(&edges);
-    sum.add(&lengths);
+    let groups = [
+        ("cards with a damaged line", damages::hold()?),
+        ("cards with a held number above the count", numbers::above()?),
+        ("cards with a number held twice", numbers::twice()?),
+        ("cards that are just well formed", edges::hold()?),
+        ("other lengths of card and counts", lengths::hold()?),
+    ];
+    let mut sum = Tally::default();
+    for (name, tally) in groups {
+        println!("{name}: {} agree", tally.named);
+        sum.add(&tally);
+    }
     Ok(sum)
-}
-
-/// The numbers that were never met, 255 among them.
-fn missing(tally: &Tally) -> Vec<usize> {
-    let damaged = (tally.damaged == 0).then_some(255);
-    report::missing(tally).into_iter().chain(damaged).collect()
 }

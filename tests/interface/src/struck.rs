@@ -4,11 +4,10 @@
 
 use crate::held;
 use crate::lent::COUNTS;
-use compare::calls;
-use compare::machine::Machine;
+use compare::mixed;
 use compare::random::Random;
 use compare::subject::Tally;
-use compare::words::{self, CARD, LINE, STATE};
+use compare::words::{self, CARD, COUNT, HELD, LINE, STATE};
 use compare::zuc::TOP;
 
 /// Words at the limits of what a place may hold.
@@ -20,8 +19,9 @@ const EVERY: u64 = 3;
 /// Call list `number` of `seed` on cards that are changed.
 pub fn hold(seed: u64, number: u64) -> Result<Tally, String> {
     let mut random = Random::new(seed ^ 0xDA3A, number);
-    let (mut machine, mut tally) = (Machine::fresh(), Tally::default());
-    for (i, call) in calls::list(seed, number).iter().enumerate() {
+    let (list, mut tally) = (mixed::list(seed, number), Tally::default());
+    let mut machine = list.start;
+    for (i, call) in list.calls.iter().enumerate() {
         if random.between(1, EVERY) == 1 {
             let mut card = words::of(&machine);
             strike(&mut random, &mut card);
@@ -34,15 +34,23 @@ pub fn hold(seed: u64, number: u64) -> Result<Tally, String> {
     Ok(tally)
 }
 
-/// Changes a card: its length, its lines' order, or one to three of its words.
+/// Changes a card: its length, its lines' order, its parks, or one to three of its words.
 fn strike(random: &mut Random, card: &mut Vec<u32>) {
     let (one, other) = (random.size(0, 7), random.size(0, 7));
-    match random.between(0, 19) {
+    match random.between(0, 24) {
         0 => card.truncate(random.size(0, CARD - 1)),
         1 => card.resize(CARD + random.size(1, LINE), 0),
         2 => card.copy_within(LINE * one..LINE * (one + 1), LINE * other),
-        3 => card.rotate_left(LINE * one),
+        3 => card[..COUNT].rotate_left(LINE * one),
         4 => card.rotate_left(random.size(0, CARD - 1)),
+        5 => card[HELD..].rotate_left(one),
+        6 => card[HELD + one] = card[HELD + other],
+        7..=9 => {
+            for _ in 0..random.size(1, 3) {
+                let place = random.size(COUNT, CARD - 1);
+                card[place] = number(random, card);
+            }
+        }
         _ => {
             for _ in 0..random.size(1, 3) {
                 let place = place(random);
@@ -59,6 +67,14 @@ fn place(random: &mut Random) -> usize {
         _ => random.size(STATE, LINE - 1),
     };
     LINE * random.size(0, 7) + within
+}
+
+/// A number of a park, or a count: one of the card's own or one beside it, a small one, or a great one.
+fn number(random: &mut Random, card: &[u32]) -> u32 {
+    let own = card[random.size(COUNT, CARD - 1)];
+    let any = random.draw() as u32;
+    let small = random.between(0, 20) as u32;
+    random.pick(&[0, small, own, own.wrapping_sub(1), own.wrapping_add(1), u32::MAX - 1, u32::MAX, any])
 }
 
 /// What a word becomes.

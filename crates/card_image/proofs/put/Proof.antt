@@ -1,18 +1,19 @@
--- `card_image::put` meets its contract: the cipher's byte, and the words behind it.
+-- `card_image::put` meets its contract: the cipher's byte, the words of the position, the number and the words of the state, each behind the one before it.
 -- Assumes nothing.
-use mathlib.Core.Path.{_≡_, ap, _∙_}
+use mathlib.Core.Path.{ap, subst, _∙_}
 use mathlib.Core.List.{List, [], _∷_, _++_}
 use Prim.Native.Nat.{ℕ, _-_, _*_}
 use native.Mathlib.Omega.{arith}
-use lib.ListN.{length, take, drop, set, length-drop}
-use Rattle.keystream.proofs.Parts.{tail-part, tail-length}
+use lib.ListN.{length, take, drop, set}
+use Rattle.keystream.proofs.Parts.{tail-part}
 use borrow.Rule.Slice.PartMut.{putMid}
+use Rattle.words.specs.Strings.{bytesOf}
 use Rattle.card_sizes.specs.Sizes.{imageLength}
 use Rattle.machine.specs.Fields.{spelt}
 use Rattle.machine.specs.Machine.{imageOf}
 use Rattle.card_line.specs.Words.{lineIn}
 use Rattle.buffer.proofs.Fronts.{Front, front-length, front-room, front-within}
-use Rattle.card_image.proofs.Fronts.{front-1, front-image}
+use Rattle.card_image.proofs.Fronts.{front-1, front-place, front-number, front-state, parts-image, place-length, state-length}
 use borrow.Author.Needs.{needs}
 use Rattle.card_image.proofs.put.Statement.{statement}
 use Rattle.card_image.proofs.put.Tie as tie
@@ -22,7 +23,10 @@ use Rattle.card_image.proofs.put.Tie as tie
 abbrev begun : tie.After-cipher-of → tie.Start
 begun c = c .before .before .before
 
-first : (c : tie.After-cipher-of) → Front (c .cipher-of .result ∷ []) (begun c .args .out .now) (set (begun c .args .out .now) 0 (c .cipher-of .result)) 1
+abbrev out-1 : tie.After-cipher-of → List ℕ
+out-1 c = set (begun c .args .out .now) 0 (c .cipher-of .result)
+
+first : (c : tie.After-cipher-of) → Front (c .cipher-of .result ∷ []) (begun c .args .out .now) (out-1 c) 1
 first c = let s = begun c in front-1 (s .args .line .now) (s .pre .0) (s .args .out .now) (s .pre .1) (c .cipher-of .result)
 
 sub-put-words-2 : tie.Need-sub-put-words-2
@@ -35,23 +39,83 @@ put-words-requires : tie.Need-put-words-requires
 put-words-requires c κs =
     let p = c .before .before in
     let s = begun p in
-    let r = front-room (first p) 160 (s .pre .1) in
-    omega (arith, tail-length 2 (s .args .line .now), s .pre .0 .size)
+    let f = s .pre .1 in
+    let r = front-room (first p) 8 (omega (arith, f)) in
+    let n = place-length (s .args .line .now) (s .pre .0) (s .args .out .now) f in
+    omega (arith, r, n)
 
--- ---- once the words are put
+-- ---- once the position is put
 
 abbrev read : tie.After-put-words → tie.After-cipher-of
 read k = k .before .before .before
 
-whole : (k : tie.After-put-words) → let p = read k in let s = begun p in let o = set (s .args .out .now) 0 (p .cipher-of .result) in
-    Front (imageOf (lineIn (s .args .line .now))) (s .args .out .now) (putMid 1 (length o - 1) o (k .put-words .last .1 .0)) imageLength
+abbrev out-2 : tie.After-put-words → List ℕ
+out-2 k = let o = out-1 (read k) in putMid 1 (length o - 1) o (k .put-words .last .1 .0)
+
+second : (k : tie.After-put-words) → let s = begun (read k) in
+    Front ((read k .cipher-of .result ∷ []) ++ spelt (take 2 (drop 2 (s .args .line .now)))) (s .args .out .now) (out-2 k) 9
+second k = let s = begun (read k) in front-place (s .args .line .now) (s .pre .0) (s .args .out .now) (s .pre .1) (read k .cipher-of .result) _ (k .put-words .ensures)
+
+sub-put-word : tie.Need-sub-put-word
+sub-put-word c = front-within (second (c .before .before))
+
+part-put-word-start : tie.Need-part-put-word-start
+part-put-word-start c = front-within (second (c .before .before))
+
+put-word-requires : tie.Need-put-word-requires
+put-word-requires c κs =
+    let k = c .before .before .before in
+    let f = begun (read k) .pre .1 in
+    front-room (second k) 4 (omega (arith, f))
+
+-- ---- once the number is put
+
+abbrev placed : tie.After-put-word → tie.After-put-words
+placed k = k .before .before .before .before
+
+abbrev out-3 : tie.After-put-word → List ℕ
+out-3 k = let o = out-2 (placed k) in putMid 9 (length o - 9) o (k .put-word .last .1 .0)
+
+third : (k : tie.After-put-word) → let p = read (placed k) in let s = begun p in
+    Front (((p .cipher-of .result ∷ []) ++ spelt (take 2 (drop 2 (s .args .line .now)))) ++ bytesOf (s .args .number)) (s .args .out .now) (out-3 k) 13
+third k =
+    let s = begun (read (placed k)) in
+    front-number (s .args .line .now) (s .pre .0) (s .args .out .now) (s .pre .1) (s .args .number) _ (second (placed k)) (k .put-word .ensures)
+
+sub-put-words-4 : tie.Need-sub-put-words-4
+sub-put-words-4 c = front-within (third (c .before .before .before))
+
+part-put-words-start-4 : tie.Need-part-put-words-start-4
+part-put-words-start-4 c = front-within (third (c .before .before .before))
+
+put-words-requires-2 : tie.Need-put-words-requires-2
+put-words-requires-2 c κs =
+    let k = c .before .before .before .before in
+    let s = begun (read (placed k)) in
+    let f = s .pre .1 in
+    let r = front-room (third k) 152 f in
+    let n = ap length (tail-part 4 (s .args .line .now)) ∙ state-length (s .args .line .now) (s .pre .0) (s .args .out .now) f in
+    omega (arith, r, n)
+
+-- ---- once the state is put
+
+abbrev numbered : tie.After-put-words2 → tie.After-put-word
+numbered k = k .before .before .before .before .before
+
+abbrev out-4 : tie.After-put-words2 → List ℕ
+out-4 k = let o = out-3 (numbered k) in putMid 13 (length o - 13) o (k .put-words2 .last .1 .0)
+
+whole : (k : tie.After-put-words2) → let s = begun (read (placed (numbered k))) in
+    Front (imageOf (s .args .number) (lineIn (s .args .line .now))) (s .args .out .now) (out-4 k) imageLength
 whole k =
-    let p = read k in
+    let p = read (placed (numbered k)) in
     let s = begun p in
     let ws = s .args .line .now in
-    let o = set (s .args .out .now) 0 (p .cipher-of .result) in
-    front-image ws (s .pre .0) (s .args .out .now) (s .pre .1) (p .cipher-of .result) (p .cipher-of .ensures) _
-    (k .put-words .ensures ∙ ap (λ (x : List ℕ). spelt x ++ drop (4 * length x) (take (length o - 1) (drop 1 o))) (tail-part 2 ws))
+    let o = out-3 (numbered k) in
+    subst (λ (x : List ℕ). Front x (s .args .out .now) (out-4 k) imageLength)
+    (parts-image ws (s .pre .0) (s .args .out .now) (s .pre .1) (p .cipher-of .result) (s .args .number) (p .cipher-of .ensures))
+    (front-state ws (s .pre .0) (s .args .out .now) (s .pre .1) _ (third (numbered k))
+    (k .put-words2 .ensures ∙ ap (λ (x : List ℕ). spelt x ++ drop (4 * length x) (take (length o - 13) (drop 13 o))) (tail-part 4 ws)))
 
 same-length : tie.Need-same-length
 same-length c = front-length (whole (c .before .before))
@@ -61,5 +125,6 @@ returns c = let f = whole (c .before .before) in (f .size, f .is)
 
 pub put-spec : {M : Type 1} → statement M
 put-spec =
-    tie.close (tie.spec (λ c κs. search needs) (search needs) (search needs) (search needs) (search needs) sub-put-words-2 part-put-words-start-2 (search needs)
-    put-words-requires same-length returns)
+    tie.close (tie.spec (λ c κs. search needs) (search needs) (search needs) (search needs) (search needs) sub-put-words-2 part-put-words-start-2 (λ c. search needs)
+    put-words-requires sub-put-word part-put-word-start (λ c. search needs) put-word-requires (λ c. search needs) (λ c. search needs) (λ c. search needs)
+    sub-put-words-4 part-put-words-start-4 (λ c. search needs) put-words-requires-2 same-length returns)

@@ -2,9 +2,9 @@
 //! sample state by a park.
 
 use super::published::{name, unit, Published};
-use super::Case;
+use super::{altered, Case};
 use crate::annex::{self, Row};
-use crate::command::{self, padded, RECORD};
+use crate::command::{self, padded, IMAGE, RECORD, STATE_AT};
 use crate::random::Random;
 use crate::{hex, images, zeros};
 
@@ -57,7 +57,7 @@ fn state(number: usize, row: &Row) -> Option<Case> {
     let before = unit(row.cipher) * usize::from(index[0]);
     let open = command::open_own(6, row.cipher, &padded(key, RECORD), &padded(iv, command::IV));
     let commands = [open, command::crypt(6, before as u16), command::park(6)];
-    let image = images::image(row.cipher, before as u64, state);
+    let image = images::image(row.cipher, before as u64, 1, state);
     let case = Case::new(format!("state {number} of annex C, {}", row.clause), &commands, "end 3 0");
     Some(case.data(vec![0; before]).part(before, &image))
 }
@@ -66,13 +66,14 @@ fn state(number: usize, row: &Row) -> Option<Case> {
 /// IV for which the first INIT step would feed back 0.
 fn zero_cells() -> [Case; 2] {
     let cells = [0x7F, 0xFF, 0xFF, 0xFF].repeat(16);
-    let ordinary = [command::resume(0, &images::image(1, 0, &cells)), command::crypt(0, 4), command::park(0)];
+    let resumed = altered::resumed(0, &images::image(1, 0, 1, &cells));
+    let ordinary = [&resumed[..], &[command::crypt(0, 4), command::park(0)]].concat();
     let (key, iv) = zeros::key_and_iv(&mut Random::new(0, 0));
     let init = [command::open_own(0, 1, &padded(&key, RECORD), &iv), command::crypt(0, 64), command::park(0)];
     [
-        Case::new("ZUC: cells of 2^31 - 1 feed back 2^31 - 1", &ordinary, "end 3 0")
+        Case::new("ZUC: cells of 2^31 - 1 feed back 2^31 - 1", &ordinary, "end 5 0")
             .data(vec![0; 4])
-            .part(4, &images::image(1, 4, &cells)[..9 + 64]),
+            .part(IMAGE + 4, &images::image(1, 4, 2, &cells)[..STATE_AT + 64]),
         Case::new("ZUC: a key and IV whose first INIT step would feed back 0", &init, "end 3 0").data(vec![0; 64]),
     ]
 }

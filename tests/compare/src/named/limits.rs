@@ -4,7 +4,8 @@
 use super::published::{self, Published};
 use super::refusals::open;
 use super::Case;
-use crate::command::{self, padded, IMAGE, RECORD};
+use crate::command::{self, padded, RECORD};
+use crate::images::image;
 use crate::program::{Files, READ};
 
 pub fn cases() -> Vec<Case> {
@@ -52,8 +53,8 @@ fn tray_lengths() -> Vec<Case> {
 
 /// Only command 01 looks at the tray.
 fn no_tray_needed() -> Vec<Case> {
-    let resume = command::resume(1, &padded(&[4], IMAGE));
-    let commands = [open(0), command::crypt(0, 0), resume, command::park(0), command::close(1)];
+    let resume = command::resume(1, &image(4, 0, 1, &[]));
+    let commands = [open(0), command::crypt(0, 0), command::park(0), resume, command::close(1)];
     let of = |length: usize| Case::new(format!("tray of {length} and no open from it"), &commands, "end 5 0");
     [1, 8_193, 8_224].map(|length| of(length).tray(vec![0; length])).into()
 }

@@ -1,16 +1,18 @@
-//! The order of the refusals: 1 for empty, 2, 1 for cut short, 3, 4, 5, 6, 9, 10, 7, 8, 13, 11, 12. For each command
-//! one with all the faults that it can have at once, then with the first mended, and so on; and pairs of faults with
-//! no other. No command can have both of 1 for empty and 2, 5 and 6, 6 and 9, 7 and 8, or 8 and 13.
+//! The order of the refusals: 1 for empty, 2, 1 for cut short, 3, 4, 5, 6, 15, 9, 10, 7, 8, 14, 13, 11, 12. For each
+//! command one with all the faults that it can have at once, then with the first mended, and so on; and pairs of faults
+//! with no other. No command can have both of 1 for empty and 2, 5 and 6, 6 and 9, 15 and 9, 7 and 8, or 14 and 13. For
+//! 15 a card must be handed in.
 
 use super::refusals::open;
-use super::{full, positions, Case};
+use super::{altered, full, positions, Case};
 use crate::cipher::LAST;
-use crate::command::{self, IMAGE, RECORD};
+use crate::command::{self, numbered, IMAGE, RECORD};
 use crate::machine::END;
 
 pub fn cases() -> Vec<Case> {
-    let groups = [from_tray(), own(), crypt(), park(), resume(), close(), pairs(), pairs_of_trays(), pairs_of_crypts()];
-    groups.into_iter().flatten().collect()
+    let each = [from_tray(), own(), crypt(), park(), resume(), close()];
+    let pairs = [pairs(), pairs_of_images(), pairs_of_trays(), pairs_of_crypts()];
+    each.into_iter().chain(pairs).flatten().collect()
 }
 
 /// A case on a card whose line 0 is open.
@@ -68,10 +70,10 @@ fn own() -> Vec<Case> {
     ]
 }
 
-/// On a card with 9 bytes left of out and 40 of data, line 0 open at its first byte and line 6 one byte before the
+/// On a card with 31 bytes left of out and 40 of data, line 0 open at its first byte and line 6 one byte before the
 /// end.
 fn crypt() -> Vec<Case> {
-    let far = command::resume(6, &positions::image(3, END - 1));
+    let far = command::resume(6, &numbered(&positions::image(3, END - 1), full::PARKS as u32));
     let after = |name: &str, last: Vec<u8>, code: u8| {
         let accepted = full::PARKS * 2 + 2 + usize::from(code == 0);
         let commands = [full::parks(full::PARKS), vec![full::open(0), far.clone(), last]].concat();
@@ -87,11 +89,11 @@ fn crypt() -> Vec<Case> {
         after("13, 12", command::crypt(6, 40), 13),
         after("11, 12", command::crypt(0, 41), 11),
         after("12", command::crypt(0, 40), 12),
-        after("all mended", command::crypt(0, 9), 0),
+        after("all mended", command::crypt(0, 31), 0),
     ]
 }
 
-/// On a card with line 0 open and 9 bytes left of out, too few for an image; mended, with 170 left.
+/// On a card with line 0 open and 31 bytes left of out, too few for an image; mended, with 196 left.
 fn park() -> Vec<Case> {
     let after = |name: &str, parks: usize, last: Vec<u8>, code: u8| {
         let accepted = parks * 2 + 1 + usize::from(code == 0);
@@ -112,13 +114,21 @@ fn park() -> Vec<Case> {
 fn resume() -> Vec<Case> {
     let (bad, good) = (vec![0; IMAGE], positions::image(3, 0));
     vec![
-        case("resume, 2, 1, 3, 8", cut(unknown(command::resume(8, &bad))), 2),
-        case("resume, 1, 3, 8", cut(command::resume(8, &bad)), 1),
-        case("resume, 3, 8", command::resume(8, &bad), 3),
-        case("resume, 5, 8", command::resume(0, &bad), 5),
-        case("resume, 8, and never 4", command::resume(1, &bad), 8),
-        case("resume, all mended", command::resume(1, &good), 0),
+        held("resume, 2, 1, 3, 8, 14", cut(unknown(command::resume(8, &bad))), 2),
+        held("resume, 1, 3, 8, 14", cut(command::resume(8, &bad)), 1),
+        held("resume, 3, 8, 14", command::resume(8, &bad), 3),
+        held("resume, 5, 8, 14", command::resume(0, &bad), 5),
+        held("resume, 8, 14, and never 4", command::resume(1, &bad), 8),
+        held("resume, 14", command::resume(1, &numbered(&good, 0)), 14),
+        held("resume, all mended", command::resume(1, &good), 0),
     ]
+}
+
+/// A case on a card whose line 0 is open, and that holds number 1 for line 5.
+fn held(name: &str, last: Vec<u8>, code: u8) -> Case {
+    let accepted = if code == 0 { 4 } else { 3 };
+    let commands = [&[open(0)], &altered::parked(5)[..], &[last]].concat();
+    Case::new(format!("order: {name}"), &commands, format!("end {accepted} {code}"))
 }
 
 fn close() -> Vec<Case> {
@@ -141,12 +151,23 @@ fn pairs() -> Vec<Case> {
         case("1 for cut short before 4", cut(own(1, 0)), 1),
         case("1 for cut short before 5", cut(own(0, 1)), 1),
         case("1 for cut short before 6", vec![0x03, 0x01, 0x00], 1),
-        case("1 for cut short before 8", cut(command::resume(1, &[0xFF; IMAGE])), 1),
         case("3 before 4", own(8, NONE), 3),
-        case("3 before 8", command::resume(9, &[0xFF; IMAGE]), 3),
         case("4 before 5", own(0, 0), 4),
         case("5 before 7", stray, 5),
-        case("5 before 8", command::resume(0, &[0xFF; IMAGE]), 5),
+    ]
+}
+
+/// Bad images with a held number, good ones with one that isn't, and one with both faults.
+fn pairs_of_images() -> Vec<Case> {
+    let (bad, good) = (numbered(&[0xFF; IMAGE], 1), numbered(&positions::image(3, 0), 2));
+    vec![
+        held("1 for cut short before 8", cut(command::resume(1, &bad)), 1),
+        held("3 before 8", command::resume(9, &bad), 3),
+        held("5 before 8", command::resume(0, &bad), 5),
+        held("1 for cut short before 14", cut(command::resume(1, &good)), 1),
+        held("3 before 14", command::resume(9, &good), 3),
+        held("5 before 14", command::resume(0, &good), 5),
+        held("8 before 14", command::resume(1, &numbered(&bad, 2)), 8),
     ]
 }
 
@@ -175,15 +196,15 @@ fn pairs_of_trays() -> Vec<Case> {
 /// What `crypt` has beside these needs out to be full.
 fn pairs_of_crypts() -> Vec<Case> {
     let late = |name: &str, data: usize, count: u16, end: &str| {
-        let commands = [command::resume(5, &positions::image(1, END - 5)), command::crypt(5, count)];
+        let commands = [altered::resumed(5, &positions::image(1, END - 5)), vec![command::crypt(5, count)]].concat();
         Case::new(format!("order: {name}"), &commands, end).data(vec![0; data])
     };
     vec![
         case("3 before 11", command::crypt(8, 1), 3),
         case("6 before 11", command::crypt(1, 1), 6),
-        late("13 before 11", 5, 6, "end 1 13"),
-        late("13 with all the data there", 6, 6, "end 1 13"),
-        late("11 with all the positions there", 4, 5, "end 1 11"),
-        late("the last five bytes", 5, 5, "end 2 0"),
+        late("13 before 11", 5, 6, "end 3 13"),
+        late("13 with all the data there", 6, 6, "end 3 13"),
+        late("11 with all the positions there", 4, 5, "end 3 11"),
+        late("the last five bytes", 5, 5, "end 4 0"),
     ]
 }

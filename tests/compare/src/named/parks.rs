@@ -1,10 +1,10 @@
 //! Lines parked and resumed, on the same line and on others, at a unit's end and within a unit: what comes before
-//! and after is one stream, and an image can be resumed more than once.
+//! and after is one stream, and an image is resumed once.
 
 use super::published::{self, text, Published};
 use super::Case;
 use crate::builder::Builder;
-use crate::command::{self, IMAGE};
+use crate::command::{self, IMAGE, STATE_AT};
 use crate::images::image;
 use crate::random::Random;
 
@@ -23,21 +23,21 @@ pub fn cases() -> Vec<Case> {
 }
 
 /// A list in the making with this data and no tray.
-fn list(data: Vec<u8>) -> Builder {
+pub fn list(data: Vec<u8>) -> Builder {
     Builder::new(Random::new(0, 0), Vec::new(), data)
 }
 
 /// Adds frames on a line.
-fn frames(b: &mut Builder, line: u8, counts: &[u16]) {
+pub fn frames(b: &mut Builder, line: u8, counts: &[u16]) {
     for &count in counts {
         b.put(&command::crypt(line, count));
     }
 }
 
 /// Parks a line; gives the image.
-fn park(b: &mut Builder, line: u8) -> Vec<u8> {
+pub fn park(b: &mut Builder, line: u8) -> Vec<u8> {
     b.put(&command::park(line));
-    b.images.last().cloned().unwrap_or_default()
+    b.all_images().pop().unwrap_or_default()
 }
 
 /// Parks one line and resumes on another.
@@ -46,9 +46,9 @@ fn carry(b: &mut Builder, from: u8, to: u8) {
     b.put(&command::resume(to, &image));
 }
 
-/// The first bytes of an image: the cipher and the position.
-fn head(p: &Published, position: usize) -> Vec<u8> {
-    image(p.cipher, position as u64, &[])[..9].to_vec()
+/// The first bytes of an image: the cipher, the position and the number of the park.
+fn head(p: &Published, position: usize, number: u32) -> Vec<u8> {
+    image(p.cipher, position as u64, number, &[])[..STATE_AT].to_vec()
 }
 
 /// Annex C's keystream with a park in it, the frames before and after together 32 bytes.
@@ -61,7 +61,7 @@ fn once(p: &Published, what: &str, before: &[u16], after: &[u16]) -> Case {
     let parked: usize = before.iter().sum::<u16>().into();
     let end = format!("end {} 0", 3 + before.len() + after.len());
     let case = Case::of(format!("{}: parked {what}, resumed on another line", p.name()), b.files(), end);
-    let case = case.part(0, &p.stream[..parked]).part(parked, &head(p, parked));
+    let case = case.part(0, &p.stream[..parked]).part(parked, &head(p, parked, 1));
     case.part(parked + IMAGE, &p.stream[parked..32])
 }
 
@@ -77,9 +77,9 @@ fn everywhere(p: &Published) -> Case {
         b.put(&command::close(other));
     }
     let mut case = Case::of(format!("{}: parked after each of 0 to 32 bytes", p.name()), b.files(), "end 198 0");
-    for parked in 0..=32 {
+    for (parked, number) in (0..=32).zip(1..) {
         let at = parked * (32 + IMAGE);
-        case = case.part(at, &p.stream[..parked]).part(at + parked, &head(p, parked));
+        case = case.part(at, &p.stream[..parked]).part(at + parked, &head(p, parked, number));
         case = case.part(at + parked + IMAGE, &p.stream[parked..32]);
     }
     case
@@ -102,9 +102,9 @@ fn over_and_over(p: &Published) -> Case {
     let name = format!("{}: parked three times, against one crypt", p.name());
     let mut case = Case::of(name, b.files(), "end 21 0");
     let (mut at, mut pieces) = (700, Vec::new());
-    for (from, parked) in [(0, 181), (181, 256), (256, 411)] {
+    for (from, parked, number) in [(0, 181, 1), (181, 256, 2), (256, 411, 3)] {
         let image = at + parked - from;
-        case = case.part(image, &head(p, parked));
+        case = case.part(image, &head(p, parked, number));
         pieces.push(at..image);
         at = image + IMAGE;
     }
@@ -112,41 +112,29 @@ fn over_and_over(p: &Published) -> Case {
     case.joined(0..700, &pieces)
 }
 
-/// An image resumed on two lines that are open at once, with frames in turn.
+/// An image resumed on one line, and then on another while the first is open: the second is refused.
 fn together(p: &Published) -> Case {
-    let mut b = list(vec![0; 6 + 2 * 26]);
+    let mut b = list(vec![0; 32]);
     b.put(&p.open(2));
     frames(&mut b, 2, &[6]);
     let image = park(&mut b, 2);
     b.put(&command::resume(1, &image));
+    frames(&mut b, 1, &[3, 7, 16]);
     b.put(&command::resume(6, &image));
-    for count in [3, 7, 16] {
-        frames(&mut b, 1, &[count]);
-        frames(&mut b, 6, &[count]);
-    }
-    let case = Case::of(format!("{}: an image resumed on two lines", p.name()), b.files(), "end 11 0");
-    let at = 6 + IMAGE;
-    let case = case.part(0, &p.stream[..6]).part(at, &p.stream[6..9]).part(at + 3, &p.stream[6..9]);
-    let case = case.part(at + 6, &p.stream[9..16]).part(at + 13, &p.stream[9..16]);
-    case.part(at + 20, &p.stream[16..32]).part(at + 36, &p.stream[16..32])
+    let case = Case::of(format!("{}: number 14, an image resumed on two lines", p.name()), b.files(), "end 7 14");
+    case.part(0, &p.stream[..6]).part(6 + IMAGE, &p.stream[6..32])
 }
 
-/// An image resumed on the line that it was parked from, closed, resumed there again, parked and resumed again.
+/// An image resumed on the line that it was parked from, closed, and resumed there again: the second is refused.
 fn one_after_the_other(p: &Published) -> Case {
-    let mut b = list(vec![0; 9 + 3 * 23]);
+    let mut b = list(vec![0; 32]);
     b.put(&p.open(2));
     frames(&mut b, 2, &[9]);
     let image = park(&mut b, 2);
-    for _ in 0..2 {
-        b.put(&command::resume(2, &image));
-        frames(&mut b, 2, &[23]);
-        b.put(&command::close(2));
-    }
     b.put(&command::resume(2, &image));
-    carry(&mut b, 2, 2);
     frames(&mut b, 2, &[23]);
-    let case = Case::of(format!("{}: an image resumed three times on its line", p.name()), b.files(), "end 13 0");
-    let (at, again) = (9 + IMAGE, 9 + IMAGE + 2 * 23);
-    let case = case.part(at, &p.stream[9..32]).part(at + 23, &p.stream[9..32]);
-    case.part(again + IMAGE, &p.stream[9..32]).same(9..at, again..again + IMAGE)
+    b.put(&command::close(2));
+    b.put(&command::resume(2, &image));
+    let case = Case::of(format!("{}: number 14, an image resumed twice on its line", p.name()), b.files(), "end 6 14");
+    case.part(0, &p.stream[..9]).part(9 + IMAGE, &p.stream[9..32])
 }

@@ -1,10 +1,10 @@
-//! Positions by resumed images: the last byte before 2^36 and the end itself, and positions about 2^32, where the
-//! position goes on and the keystream is that of the same state at a small position.
+//! Positions by images that are altered to have them: the last byte before 2^36 and the end itself, and positions about
+//! 2^32, where the position goes on and the keystream is that of the same state at a small position.
 
 use super::published::{name, unit};
-use super::{published, Case};
+use super::{altered, published, Case};
 use crate::cipher::LAST;
-use crate::command::{self, IMAGE};
+use crate::command::{self, numbered, IMAGE, STATE_AT};
 use crate::images;
 use crate::machine::END;
 
@@ -32,45 +32,53 @@ fn state(cipher: u8) -> (Vec<u8>, [u8; 4]) {
     }
 }
 
-/// An image of the cipher with that state at a position.
+/// An image of the cipher with that state at a position, and with number 1.
 pub fn image(cipher: u8, position: u64) -> Vec<u8> {
-    images::image(cipher, position, &state(cipher).0)
+    images::image(cipher, position, 1, &state(cipher).0)
 }
 
 /// A case that resumes on line 3 at a position and goes on with counts there.
 fn from(position: u64, cipher: u8, what: &str, counts: &[u16], end: &str) -> Case {
-    let mut commands = vec![command::resume(3, &image(cipher, position))];
+    let mut commands = altered::resumed(3, &image(cipher, position));
     commands.extend(counts.iter().map(|&count| command::crypt(3, count)));
     Case::new(format!("{}: {what}", name(cipher)), &commands, end).data(vec![0; 40])
+}
+
+/// What such a case writes, with these bytes after the resume.
+fn after(bytes: &[u8]) -> Vec<u8> {
+    [&altered::written(1), bytes].concat()
 }
 
 /// The bytes before 2^36.
 fn last_bytes(cipher: u8) -> Vec<Case> {
     let four = state(cipher).1;
     vec![
-        from(END - 1, cipher, "n = 2^36 - 1 with count 1", &[1], "end 2 0").out(&four[3..]),
-        from(END - 1, cipher, "n = 2^36 - 1 with count 2", &[2], "end 1 13").out(&[]),
-        from(END - 1, cipher, "n = 2^36 - 1 with count 65,535", &[u16::MAX], "end 1 13").out(&[]),
-        from(END - 1, cipher, "n = 2^36 - 1 with counts 0, 1, 0, 1", &[0, 1, 0, 1], "end 4 13").out(&four[3..]),
-        from(END - 4, cipher, "n = 2^36 - 4 with count 4", &[4], "end 2 0").out(&four),
-        from(END - 4, cipher, "n = 2^36 - 4 with counts 1, 2, 2", &[1, 2, 2], "end 3 13").out(&four[..3]),
-        from(END - 40, cipher, "n = 2^36 - 40 with counts 40, 0, 1", &[40, 0, 1], "end 3 13"),
-        from(END - 40, cipher, "n = 2^36 - 40 with count 41", &[41], "end 1 13").out(&[]),
+        from(END - 1, cipher, "n = 2^36 - 1 with count 1", &[1], "end 4 0").out(&after(&four[3..])),
+        from(END - 1, cipher, "n = 2^36 - 1 with count 2", &[2], "end 3 13").out(&after(&[])),
+        from(END - 1, cipher, "n = 2^36 - 1 with count 65,535", &[u16::MAX], "end 3 13").out(&after(&[])),
+        from(END - 1, cipher, "n = 2^36 - 1 with counts 0, 1, 0, 1", &[0, 1, 0, 1], "end 6 13").out(&after(&four[3..])),
+        from(END - 4, cipher, "n = 2^36 - 4 with count 4", &[4], "end 4 0").out(&after(&four)),
+        from(END - 4, cipher, "n = 2^36 - 4 with counts 1, 2, 2", &[1, 2, 2], "end 5 13").out(&after(&four[..3])),
+        from(END - 40, cipher, "n = 2^36 - 40 with counts 40, 0, 1", &[40, 0, 1], "end 5 13"),
+        from(END - 40, cipher, "n = 2^36 - 40 with count 41", &[41], "end 3 13").out(&after(&[])),
     ]
 }
 
-/// 2^36 itself, by an image from elsewhere and by one that a park wrote there.
+/// 2^36 itself, by an altered image and by one that a park wrote there.
 fn end(cipher: u8) -> Vec<Case> {
     let four = state(cipher).1;
-    let head = [&[cipher, 0, 0, 0, 0x10], &[0; 4][..]].concat();
-    let commands = [command::resume(3, &image(cipher, END - 1)), command::crypt(3, 1), command::park(3)];
-    let parked = Case::new(format!("{}: parked at 2^36", name(cipher)), &commands, "end 3 0").data(vec![0; 1]);
-    let again = [command::resume(3, &image(cipher, END)), command::park(3), command::crypt(3, 0)];
+    let head = [&[cipher, 0, 0, 0, 0x10], &[0; 7][..], &[2]].concat();
+    let frame = vec![command::crypt(3, 1), command::park(3)];
+    let commands = [altered::resumed(3, &image(cipher, END - 1)), frame].concat();
+    let parked = Case::new(format!("{}: parked at 2^36", name(cipher)), &commands, "end 5 0").data(vec![0; 1]);
+    let park = vec![command::park(3), command::crypt(3, 0)];
+    let again = [altered::resumed(3, &image(cipher, END)), park].concat();
+    let again = Case::new(format!("{}: parked as resumed at 2^36", name(cipher)), &again, "end 4 6");
     vec![
-        from(END, cipher, "n = 2^36 with count 0", &[0, 0], "end 3 0").out(&[]),
-        from(END, cipher, "n = 2^36 with count 1", &[1], "end 1 13").out(&[]),
-        parked.part(0, &four[3..]).part(1, &head),
-        Case::new(format!("{}: parked as resumed at 2^36", name(cipher)), &again, "end 2 6").out(&image(cipher, END)),
+        from(END, cipher, "n = 2^36 with count 0", &[0, 0], "end 5 0").out(&after(&[])),
+        from(END, cipher, "n = 2^36 with count 1", &[1], "end 3 13").out(&after(&[])),
+        parked.part(IMAGE, &four[3..]).part(IMAGE + 1, &head),
+        again.out(&after(&numbered(&image(cipher, END), 2))),
     ]
 }
 
@@ -83,15 +91,17 @@ fn far(cipher: u8) -> Vec<Case> {
 /// 37 bytes in three frames from a position, parked; and the same from the place that it has within a unit.
 fn beside_a_small_one(cipher: u8, position: u64) -> Case {
     let small = position % unit(cipher) as u64;
-    let on = |line: u8, from: u64| {
+    let on = |line: u8, from: u64, number: u32| {
         let frames = [5, 1, 31].map(|count| command::crypt(line, count));
-        [vec![command::resume(line, &image(cipher, from))], frames.into(), vec![command::park(line)]].concat()
+        let resumed = altered::resumed(line, &numbered(&image(cipher, from), number));
+        [resumed, frames.into(), vec![command::park(line)]].concat()
     };
     let text = published::text(37).repeat(2);
     let name = format!("{}: on from n = {position}", name(cipher));
-    let case = Case::new(name, &[on(0, position), on(1, small)].concat(), "end 10 0").data(text);
-    let head = |from: u64| [&[cipher], &(from + 37).to_be_bytes()[..]].concat();
-    let second = 37 + IMAGE;
-    let case = case.part(37, &head(position)).part(second + 37, &head(small));
-    case.same(0..37, second..second + 37).same(46..second, second + 46..2 * second)
+    let case = Case::new(name, &[on(0, position, 1), on(1, small, 3)].concat(), "end 14 0").data(text);
+    let head = |from: u64, number: u8| [&[cipher], &(from + 37).to_be_bytes()[..], &[0, 0, 0, number]].concat();
+    let (parked, second) = (IMAGE + 37, 2 * IMAGE + 37);
+    let case = case.part(parked, &head(position, 2)).part(second + parked, &head(small, 4));
+    let state = parked + STATE_AT;
+    case.same(IMAGE..parked, second + IMAGE..second + parked).same(state..second, second + state..2 * second)
 }

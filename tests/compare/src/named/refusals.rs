@@ -1,13 +1,14 @@
-//! A case for each refusal, 1 to 13, and the same for each command that can meet it. Number 8 has its conditions in
-//! `images`, 12 its limits in `full` and 13 in `positions`. The program never calls with an empty command.
+//! A case for each refusal, 1 to 14, and the same for each command that can meet it. Number 8 has its conditions in
+//! `images`, 12 its limits in `full`, 13 in `positions` and 14 in `numbers`. The program never calls with an empty
+//! command, and doesn't come to as many parks as number 15 needs.
 
 use super::published::name;
-use super::{full, positions, Case};
+use super::{altered, full, positions, Case};
 use crate::cipher::LAST;
-use crate::command::{self, padded, IMAGE, RECORD};
+use crate::command::{self, padded, IMAGE, NUMBER_AT, RECORD, STATE_AT};
 
 pub fn cases() -> Vec<Case> {
-    let read = [numbers(), cut_short(), short_images(), unknown(), lines(), ciphers()];
+    let read = [numbers(), cut_short(), short_images(), images_without_a_number(), unknown(), lines(), ciphers()];
     let judged = [open_or_idle(), stray(), trays(), data()];
     read.into_iter().chain(judged).flatten().collect()
 }
@@ -46,13 +47,15 @@ const EIGHT: &str = "call code cmd data out\n1 8 0 0 0\nend 0 8\n";
 const NINE: &str = "call code cmd data out\n1 9 0 0 0\nend 0 9\n";
 const TEN: &str = "call code cmd data out\n1 10 0 0 0\nend 0 10\n";
 const ELEVEN: &str = "call code cmd data out\n1 0 51 0 0\n2 11 0 0 0\nend 1 11\n";
-const THIRTEEN: &str = "call code cmd data out\n1 0 163 0 0\n2 13 0 0 0\nend 1 13\n";
+const THIRTEEN: &str = "call code cmd data out\n1 0 51 0 0\n2 0 2 0 165\n3 0 167 0 0\n4 13 0 0 0\nend 3 13\n";
+const FOURTEEN: &str = "call code cmd data out\n1 0 51 0 0\n2 0 2 0 165\n3 0 167 0 0\n4 14 0 0 0\nend 3 14\n";
 
 /// One case for each number, with its table; that of 12 is long.
 fn numbers() -> Vec<Case> {
     let key = padded(&[1; 17], RECORD);
     let from_tray = || command::open_tray(0, 1, 0, &[0; 16]);
-    let far = positions::image(3, (1 << 36) - 1);
+    let far = altered::resumed(0, &positions::image(3, (1 << 36) - 1));
+    let again = command::resume(7, &altered::written(1));
     vec![
         Case::new("no command left: no call, and 0", &[], "end 0 0").table("call code cmd data out\nend 0 0\n"),
         refused(1, "a crypt of three bytes", &[], vec![3, 0, 0]).table(ONE),
@@ -67,7 +70,8 @@ fn numbers() -> Vec<Case> {
         refused(10, "an empty tray", &[], from_tray()).table(TEN),
         refused(11, "a byte asked for and none there", &[open(0)], vec![3, 0, 0, 1]).table(ELEVEN),
         full::by_parks(),
-        refused(13, "two bytes and one left", &[command::resume(0, &far)], vec![3, 0, 0, 2]).table(THIRTEEN),
+        refused(13, "two bytes and one left", &far, vec![3, 0, 0, 2]).table(THIRTEEN),
+        refused(14, "an image that was taken up", &altered::resumed(0, &altered::written(1)), again).table(FOURTEEN),
     ]
 }
 
@@ -82,15 +86,32 @@ fn cut_short() -> Vec<Case> {
     each(0).into_iter().flat_map(cut).collect()
 }
 
-/// Images of 89 bytes, which all states but MUGI's would fit in: a resume is cut short with such an image alone, and
+/// Images of 93 bytes, which all states but MUGI's would fit in: a resume is cut short with such an image alone, and
 /// takes commands behind it for padding.
 fn short_images() -> Vec<Case> {
-    let short = |cipher: u8| command::resume(0, &positions::image(cipher, 5)[..89]);
+    let short = |cipher: u8| command::resume(0, &positions::image(cipher, 5)[..93]);
     let behind = |cipher: u8| [short(cipher), command::crypt(0, 0).repeat(18)].concat();
-    let what = |cipher: u8| format!("{}, a resume with an image of 89 bytes", name(cipher));
+    let what = |cipher: u8| format!("{}, a resume with an image of 93 bytes", name(cipher));
     let alone = (1..=LAST).map(|cipher| refused(1, what(cipher), &[], short(cipher)));
     let padded = (1..LAST).map(|cipher| refused(8, what(cipher) + " and frames behind it", &[], behind(cipher)));
     alone.chain(padded).collect()
+}
+
+/// Images of 161 bytes, with the state behind the position: a resume is cut short with such an image alone. With a
+/// command behind it, it takes the state's first word for the number, and the command for padding or, of MUGI, for the
+/// last word of the state.
+fn images_without_a_number() -> Vec<Case> {
+    let short = |cipher: u8| {
+        let image = positions::image(cipher, 5);
+        command::resume(0, &[&image[..NUMBER_AT], &image[STATE_AT..]].concat())
+    };
+    let behind = |cipher: u8| [short(cipher), command::crypt(0, 0)].concat();
+    let what = |cipher: u8| format!("{}, a resume with an image of 161 bytes", name(cipher));
+    let alone = (1..=LAST).map(|cipher| refused(1, what(cipher), &[], short(cipher)));
+    let of = |cipher: u8| if cipher == 6 { 14 } else { 8 };
+    let taken =
+        (1..=LAST).map(|cipher| refused(of(cipher), what(cipher) + " and a frame behind it", &[], behind(cipher)));
+    alone.chain(taken).collect()
 }
 
 /// First bytes that are no command, before operands that would do for any.

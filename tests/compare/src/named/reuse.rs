@@ -1,15 +1,14 @@
 //! A line that was parked or closed is idle, and what is opened there next has nothing of what was there before.
 
 use super::published::{self, Published};
-use super::Case;
-use crate::command::{self, padded, IMAGE, IV, RECORD};
-use crate::{annex, images};
+use super::{altered, Case};
+use crate::command::{self, IMAGE};
 
 pub fn cases() -> Vec<Case> {
     let all = published::each();
     let mut cases = idle(&all[0]);
     cases.extend(all.iter().flat_map(|p| all.iter().map(move |q| after(p, q))));
-    cases.extend(all.iter().filter_map(zeros_after_the_state));
+    cases.extend(all.iter().map(zeros_after_the_state));
     cases.push(eight_lines(&all));
     cases
 }
@@ -42,16 +41,13 @@ fn after(p: &Published, q: &Published) -> Case {
     case.part(at + 13, &p.stream[..11]).part(at + 24, &q.stream[..32])
 }
 
-/// Annex C's S(0) parked from a line that had a cipher before it: the image is as from a fresh card.
-fn zeros_after_the_state(p: &Published) -> Option<Case> {
-    let row = annex::states().into_iter().find(|row| row.cipher == 2)?;
-    let [key, iv, _, state] = row.bytes.as_slice() else {
-        return None;
-    };
-    let rabbit = command::open_own(1, 2, &padded(key, RECORD), &padded(iv, IV));
-    let commands = [p.open(1), command::crypt(1, 32), command::park(1), rabbit, command::park(1)];
+/// Annex C's S(0) parked from a line that had a cipher before it: the image is as from a fresh card, but for its
+/// number.
+fn zeros_after_the_state(p: &Published) -> Case {
+    let before = [p.open(1), command::crypt(1, 32), command::park(1)];
+    let commands = [&before[..], &altered::parked(1)].concat();
     let case = Case::new(format!("Rabbit's image from a line that had {}", p.name()), &commands, "end 5 0");
-    Some(case.data(vec![0; 32]).part(32 + IMAGE, &images::image(2, 0, state)))
+    case.data(vec![0; 32]).part(32 + IMAGE, &altered::written(2))
 }
 
 /// All eight lines open at once, closed and parked from the last to the first.

@@ -1,0 +1,2 @@
+pub mod Parks
+pub mod Once

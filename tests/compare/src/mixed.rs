@@ -1,0 +1,179 @@
+//! Lists of single calls from a seed: the calls of several command lists mixed on one card, with crypts, parks and
+//! resumes between them, so that numbers are held, taken up and replaced, and images come again.
+
+use crate::calls::{self, OwnCall};
+use crate::command::{self, numbered, park_number, IMAGE, PARK, RESUME};
+use crate::images;
+use crate::ledger::{Fate, Ledger};
+use crate::lists;
+use crate::machine::{Answer, Machine};
+use crate::parks::{self, Parks};
+use crate::program::{self, Call};
+use crate::random::Random;
+
+/// A list of calls, and the card that it begins with: all lines idle, no number held, and perhaps parks made.
+pub struct CallList {
+    pub start: Machine,
+    pub calls: Vec<OwnCall>,
+}
+
+/// No more calls than these are taken from one command list.
+const MOST: usize = 150;
+
+/// Call list `number` of `seed`: the calls of three command lists of that seed, mixed, on one card, and others between
+/// them. Images of the lists' own parks have the numbers that these parks have there.
+pub fn list(seed: u64, number: u64) -> CallList {
+    let mut random = Random::new(seed ^ 0xCA11, number);
+    let made = made_before(&mut random);
+    let start = Machine::with(Parks::of(made, [0; 8]).unwrap_or_default());
+    let mut parts: Vec<Part> = (0..3).map(|i| Part::of(&mut random, seed, 3 * number + i)).collect();
+    let (mut table, mut calls) = (Table { machine: start.clone(), ledger: Ledger::after(made) }, Vec::new());
+    while !parts.is_empty() {
+        if random.chance(25) {
+            calls.push(table.added(&mut random));
+        }
+        let which = random.size(0, parts.len() - 1);
+        match parts[which].make(&mut table) {
+            Some(call) => calls.push(call),
+            None => drop(parts.remove(which)),
+        }
+    }
+    CallList { start, calls }
+}
+
+/// How many parks a card has made: mostly none, else nearly as many as can be made, any number, or one at which the
+/// count will run over the end of a byte.
+fn made_before(random: &mut Random) -> u32 {
+    match random.between(0, 7) {
+        0 => parks::MOST - random.between(0, 20) as u32,
+        1 => random.draw() as u32,
+        2 => (1 << random.pick(&[8, 16, 24, 31])) - random.between(1, 5) as u32,
+        _ => 0,
+    }
+}
+
+/// What is left of the calls of a command list, last one first, each with whether it is a park that the list's own card
+/// accepts; and for each such park made, its number on the mixed card, if that one accepts it too.
+struct Part {
+    calls: Vec<(OwnCall, bool)>,
+    numbers: Vec<Option<u32>>,
+}
+
+impl Part {
+    fn of(random: &mut Random, seed: u64, number: u64) -> Part {
+        let list = lists::list(seed, number);
+        let run = program::run(&list.files);
+        let park = |call: &Call, answer: &Answer| answer.code == 0 && call.command[0] == PARK;
+        let calls = run.calls.iter().take(MOST).map(|(call, answer)| (calls::own(random, call), park(call, answer)));
+        let mut calls: Vec<(OwnCall, bool)> = calls.collect();
+        calls.reverse();
+        Part { calls, numbers: Vec::new() }
+    }
+
+    /// Makes the next call on the mixed card and gives it; nothing if none is left.
+    fn make(&mut self, table: &mut Table) -> Option<OwnCall> {
+        let (mut call, park) = self.calls.pop()?;
+        self.renumber(&mut call.command);
+        let (code, number) = table.call(&call);
+        if park {
+            self.numbers.push((code == 0).then_some(number));
+        }
+        Some(call)
+    }
+
+    /// Gives a resume of one of the list's parks the number that this park has on the mixed card, if it has one.
+    fn renumber(&self, command: &mut [u8]) {
+        let whole = command.first() == Some(&RESUME) && command.len() >= 2 + IMAGE;
+        let Some(image) = command.get_mut(2..2 + IMAGE).filter(|_| whole) else {
+            return;
+        };
+        let own = (1..).zip(&self.numbers).find(|(own, _)| *own == park_number(image));
+        if let Some((_, Some(number))) = own {
+            image.copy_from_slice(&numbered(image, *number));
+        }
+    }
+}
+
+/// The mixed card while its list is made, and what became of its parks.
+struct Table {
+    machine: Machine,
+    ledger: Ledger,
+}
+
+impl Table {
+    /// Makes a call; gives its code, and the number of the last park made.
+    fn call(&mut self, call: &OwnCall) -> (u8, u32) {
+        let mut out = call.out.clone();
+        let answer = self.machine.call(&call.command, &call.tray, &call.data, &mut out);
+        self.ledger.note(&call.command, &answer, &out);
+        (answer.code, self.machine.parks().made())
+    }
+
+    /// Makes a crypt or a park on an open line or a resume on an idle one, and gives it.
+    fn added(&mut self, random: &mut Random) -> OwnCall {
+        let (open, idle): (Vec<u8>, Vec<u8>) = (0..8).partition(|&line| self.machine.open(line).is_some());
+        let command = if open.is_empty() || !idle.is_empty() && random.chance(40) {
+            command::resume(random.pick(&idle), &self.image(random))
+        } else if random.chance(50) {
+            command::crypt(random.pick(&open), random.between(0, 50) as u16)
+        } else {
+            command::park(random.pick(&open))
+        };
+        let out = calls::about(random, IMAGE, usize::MAX);
+        let call = OwnCall { command, tray: Vec::new(), data: random.bytes(50), out: random.bytes(out) };
+        self.call(&call);
+        call
+    }
+
+    /// An image that a park of the list wrote, mostly one that is held, or one from elsewhere with the next number
+    /// where there is none such; at times with other contents, bad ones too, or another number.
+    fn image(&self, random: &mut Random) -> Vec<u8> {
+        let made = self.machine.parks().made();
+        let fate = random.pick(&[Fate::Held, Fate::Held, Fate::Held, Fate::Held, Fate::TakenUp, Fate::Replaced]);
+        let written = self.ledger.images(fate);
+        let own = if written.is_empty() {
+            numbered(&images::elsewhere(random), made.wrapping_add(1))
+        } else {
+            random.pick(&written)
+        };
+        let contents = match random.between(0, 9) {
+            0 | 1 => images::elsewhere(random),
+            2 => {
+                let index = random.size(0, 3 * images::FAULTS);
+                images::bad(random, index)
+            }
+            _ => own.clone(),
+        };
+        let any = random.draw() as u32;
+        let number = match random.between(0, 19) {
+            0 => 0,
+            1 => random.pick(&[made, made / 2, any]),
+            _ => park_number(&own),
+        };
+        numbered(&contents, number)
+    }
+}
+
+#[cfg(test)]
+mod tests {
+    use super::*;
+    use crate::calls::CallByCall;
+    use crate::ledger::Resume;
+    use crate::subject::{Subject, Tally};
+
+    #[test]
+    fn images_are_taken_up_and_refused_in_every_way() {
+        let (mut tally, mut subject) = (Tally::default(), CallByCall { card: Machine::fresh() });
+        (0..60).for_each(|number| tally.add(&subject.hold(8, number).unwrap()));
+        assert!(tally.resumes[Resume::AsParked as usize] > 180, "{tally:?}");
+        assert!(tally.resumes.iter().all(|&count| count > 4), "{tally:?}");
+        assert!(tally.codes[15] > 60, "{tally:?}");
+    }
+
+    #[test]
+    fn lists_follow_from_seed_and_number() {
+        let of = |seed: u64, number: u64| list(seed, number).calls;
+        assert_eq!(of(2, 5), of(2, 5));
+        assert_ne!(of(2, 5), of(3, 5));
+    }
+}
