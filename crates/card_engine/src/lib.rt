@@ -9,8 +9,8 @@ use card_outcome::Outcome;
 use card_outcome::refused;
 use card_perform::perform;
 use command::Decoded;
-use command::decode;
 use command::refusal_number;
+use command_read::decode;
 
 // One call. A card that no call of this program leaves gets 255.
 pub fn run<'a>(

@@ -1,5 +1,5 @@
-// A line's image, written to the start of a buffer from the line's words, and its fields read from one (document 01, "The card"): the cipher's byte, n in eight bytes, the park's number in four,
-// and the words of the state with the zeros after it.
+// A line's image, written to the start of a buffer from the line's words (document 01, "The card"): the cipher's byte, n in eight bytes, the park's number in four, and the words of the state with the
+// zeros after it.
 // The caller must ensure that the buffer has an image's length, and that the words are a line's.
 ghost use mathlib.Core.Path.{_≡_};
 ghost use mathlib.Core.List.{_++_};
@@ -8,12 +8,11 @@ ghost use lib.ListN.{length, drop};
 ghost use Rattle.words.specs.Strings.{bytesOf};
 ghost use Rattle.card_sizes.specs.Sizes.{imageLength};
 ghost use Rattle.machine.specs.Fields.{spelt};
-ghost use Rattle.machine.specs.Machine.{imageOf, imageLine, imageNumber};
+ghost use Rattle.machine.specs.Machine.{imageOf};
 ghost use Rattle.card_line.specs.Words.{lineIn, LineHeld};
 use card_sizes::HEAD;
 use card_sizes::IMAGE_NUMBER;
 use card_sizes::IMAGE_STATE;
-use card_sizes::STATE;
 
 // The bytes of w go to the start of out.
 fn put_word(w: u32, out: &mut [u8])
@@ -53,44 +52,4 @@ pub fn put(line: &[u32], number: u32, out: &mut [u8])
     put_words(&line[2..HEAD], &mut out[1..]);
     put_word(number, &mut out[IMAGE_NUMBER..]);
     put_words(&line[HEAD..], &mut out[IMAGE_STATE..]);
-}
-
-// The cipher of the open line that an image holds.
-pub fn cipher_in(s: &[u8]) -> u8
-    requires { ⌜ imageLength ≤ length (now s) ⌝ }
-    ensures { λ r. ⌜ r ≡ imageLine (now (s .entry)) .cipher ⌝ }
-{
-    s[0]
-}
-
-// Its position.
-pub fn position_in(s: &[u8]) -> u64
-    requires { ⌜ imageLength ≤ length (now s) ⌝ }
-    ensures { λ r. ⌜ r ≡ imageLine (now (s .entry)) .n ⌝ }
-{
-    let high = words::word_at(s, 1) as u64;
-    let low = words::word_at(s, 5) as u64;
-    high * 4294967296 + low
-}
-
-// The number of its park.
-pub fn number_in(s: &[u8]) -> u32
-    requires { ⌜ imageLength ≤ length (now s) ⌝ }
-    ensures { λ r. ⌜ r ≡ imageNumber (now (s .entry)) ⌝ }
-{
-    words::word_at(s, IMAGE_NUMBER)
-}
-
-// Its state.
-pub fn words_in(s: &[u8]) -> [u32; STATE]
-    requires { ⌜ imageLength ≤ length (now s) ⌝ }
-    ensures { λ r. ⌜ r ≡ imageLine (now (s .entry)) .words ⌝ }
-{
-    let mut w = [0u32; STATE];
-    let mut i: usize = 0;
-    while i < STATE {
-        w[i] = words::word_at(s, IMAGE_STATE + 4 * i);
-        i += 1;
-    }
-    w
 }

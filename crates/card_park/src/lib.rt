@@ -57,10 +57,10 @@ pub fn run_resume(card: &mut [u32], i: u8, command: &[u8]) -> Outcome
         return refused(5);
     }
     let img = &command[RESUME_IMAGE..RESUME];
-    let cipher = card_image::cipher_in(img);
-    let n = card_image::position_in(img);
-    let state = card_image::words_in(img);
-    let number = card_image::number_in(img);
+    let cipher = card_fields::cipher_in(img);
+    let n = card_fields::position_in(img);
+    let state = card_fields::words_in(img);
+    let number = card_fields::number_in(img);
     let ok = card_checks::open_with(cipher, n, &state);
     let held = card_parks::is_held(card, number);
     if !ok {

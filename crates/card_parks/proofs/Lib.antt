@@ -1,2 +1,1 @@
 pub mod Parks
-pub mod Once

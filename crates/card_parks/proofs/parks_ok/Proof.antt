@@ -9,7 +9,7 @@ use Rattle.ciphers.specs.Table.{allOf, allZero}
 use Rattle.machine.specs.Parks.{onceEach}
 use Rattle.card_layout.specs.Words.{cardIn}
 use Rattle.card_parks.proofs.Parks.{held-part}
-use Rattle.card_parks.proofs.Once.{none-ok, high-bad, low-once}
+use Rattle.card_numbers.proofs.Once.{none-ok, high-bad, low-once}
 use borrow.Author.Needs.{needs}
 use Rattle.card_parks.proofs.parks_ok.Statement.{statement}
 use Rattle.card_parks.proofs.parks_ok.Tie as tie
