@@ -7,6 +7,8 @@
  * again; opens, crypts and closes leave it. So an image serves on the card that parked it, on whichever line, and is refused from then on (code 14). The numbers are in the
  * card: of a card and its copies only one should go on, or an image could be taken up on each.
  *
+ * A line is not opened with a blank key: one that is all zero in the cipher's own length, in the command or in the tray, is refused (code 16).
+ *
  * Link with target/staticlib/libpipeshear.a, which `rt staticlib pipeshear` makes for Linux on x86-64. */
 #ifndef PIPESHEAR_H
 #define PIPESHEAR_H
@@ -45,8 +47,8 @@ extern "C" {
  *     5  open or resume on an open line     13  position and count over 2^36
  *     6  crypt, park or close on an idle    14  park number not held
  *     7  a key or IV byte beyond the        15  no park number left: 4,294,967,295 parks have been made
- *        cipher's length is not 0          255  damaged card, card_words not PIPESHEAR_CARD, or places not 3
- *     8  an image that is none
+ *        cipher's length is not 0           16  key all zero
+ *     8  an image that is none             255  damaged card, card_words not PIPESHEAR_CARD, or places not 3
  *
  * Where places is not 3 the counts, too, stand as they did.
  *

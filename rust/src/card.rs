@@ -96,8 +96,25 @@ mod tests {
 
     fn opened() -> Card {
         let mut card = Card::new();
-        card.call(&command::open_own(4, Cipher::Zuc, &[0; 32], &[0; 16]), &[], &[], &mut []).unwrap();
+        card.call(&command::open_own(4, Cipher::Zuc, &key(16), &[0; 16]), &[], &[], &mut []).unwrap();
         card
+    }
+
+    /// The ciphers, with the lengths of their keys.
+    const CIPHERS: [(Cipher, usize); 6] = [
+        (Cipher::Zuc, 16),
+        (Cipher::Rabbit, 16),
+        (Cipher::Snow2Key16, 16),
+        (Cipher::Snow2Key32, 32),
+        (Cipher::KCipher2, 16),
+        (Cipher::Mugi, 16),
+    ];
+
+    /// A key of so many bytes, of which the last alone is not 0.
+    fn key(length: usize) -> [u8; command::KEY] {
+        let mut key = [0; command::KEY];
+        key[length - 1] = 1;
+        key
     }
 
     #[test]
@@ -146,6 +163,31 @@ mod tests {
             let before = other.clone();
             let refusal = other.call(&command::resume(1, &image), &[], &[], &mut []).unwrap_err();
             assert_eq!((refusal.code(), other), (14, before));
+        }
+    }
+
+    #[test]
+    fn a_blank_key_is_16_and_nothing_is_changed() {
+        let (blank, mut iv) = ([0; command::KEY], [0; command::IV]);
+        iv[0] = 9;
+        let refused = |command: &[u8], tray: &[u8]| {
+            let (mut card, before) = (opened(), opened());
+            let refusal = card.call(command, tray, &[], &mut []).unwrap_err();
+            assert_eq!((refusal.code(), card), (16, before));
+        };
+        for (cipher, length) in CIPHERS {
+            refused(&command::open_own(0, cipher, &blank, &iv), &key(length));
+            refused(&command::open_tray(0, cipher, 1, &iv), &[key(length), blank].concat());
+        }
+    }
+
+    #[test]
+    fn a_key_with_its_last_byte_alone_is_taken() {
+        for (cipher, length) in CIPHERS {
+            let (mut one, mut other) = (Card::new(), Card::new());
+            one.call(&command::open_own(7, cipher, &key(length), &[0; 16]), &[0; command::KEY], &[], &mut []).unwrap();
+            other.call(&command::open_tray(7, cipher, 0, &[0; 16]), &key(length), &[], &mut []).unwrap();
+            assert!(one == other && one != Card::new());
         }
     }
 

@@ -10,7 +10,8 @@ pub const KEY: usize = 32;
 /// The bytes of an IV in a command.
 pub const IV: usize = 16;
 
-/// Opens an idle line with key `key_number` of the tray, which is the tray's bytes from 32 times that number on.
+/// Opens an idle line with key `key_number` of the tray, which is the tray's bytes from 32 times that number on. A key
+/// that is all zero in the cipher's length, as in an empty record, is refused with code 16.
 pub fn open_tray(line: u8, cipher: Cipher, key_number: u8, iv: &[u8; IV]) -> [u8; 4 + IV] {
     let mut bytes = [0; 4 + IV];
     bytes[..4].copy_from_slice(&[0x01, line, cipher.number(), key_number]);
@@ -18,7 +19,8 @@ pub fn open_tray(line: u8, cipher: Cipher, key_number: u8, iv: &[u8; IV]) -> [u8
     bytes
 }
 
-/// Opens an idle line with a key of the command's own.
+/// Opens an idle line with a key of the command's own. One that is all zero in the cipher's length is refused with
+/// code 16.
 pub fn open_own(line: u8, cipher: Cipher, key: &[u8; KEY], iv: &[u8; IV]) -> [u8; 3 + KEY + IV] {
     let mut bytes = [0; 3 + KEY + IV];
     bytes[..3].copy_from_slice(&[0x02, line, cipher.number()]);
@@ -60,7 +62,9 @@ mod tests {
 
     /// The counts of a command that must be accepted, with a tray of one key and nine bytes of data.
     fn counts(card: &mut Card, command: &[u8], out: &mut [u8]) -> (usize, usize, usize) {
-        let Counts { used_command, used_data, written } = card.call(command, &[0; KEY], &[0; 9], out).unwrap();
+        let mut tray = [0; KEY];
+        tray[..16].fill(7);
+        let Counts { used_command, used_data, written } = card.call(command, &tray, &[0; 9], out).unwrap();
         (used_command, used_data, written)
     }
 

@@ -27,7 +27,7 @@
 //! use pipeshear::{command, Card, Cipher, IMAGE};
 //!
 //! let mut card = Card::new();
-//! card.call(&command::open_own(2, Cipher::Zuc, &[0; 32], &[0; 16]), &[], &[], &mut [])?;
+//! card.call(&command::open_own(2, Cipher::Snow2Key32, &[7; 32], &[0; 16]), &[], &[], &mut [])?;
 //! let mut whole = card.clone();
 //!
 //! let mut first = [0; 7];
@@ -46,6 +46,16 @@
 //! let again = card.call(&command::resume(6, &image), &[], &[], &mut []).unwrap_err();
 //! assert_eq!(again.to_string(), "park number not held (code 14)");
 //! # Ok::<(), pipeshear::Refusal>(())
+//! ```
+//!
+//! No line is opened with a blank key, as an empty record of the tray has it:
+//!
+//! ```
+//! use pipeshear::{command, Card, Cipher};
+//!
+//! let open = command::open_tray(0, Cipher::Zuc, 0, &[5; 16]);
+//! let refusal = Card::new().call(&open, &[0; 32], &[], &mut []).unwrap_err();
+//! assert_eq!(refusal.to_string(), "key all zero (code 16)");
 //! ```
 
 #![deny(missing_docs)]

@@ -17,7 +17,7 @@ impl Refusal {
         }
     }
 
-    /// The code: 1 to 15, or 255 for a damaged card.
+    /// The code: 1 to 16, or 255 for a damaged card.
     pub const fn code(self) -> u8 {
         self.0.get()
     }
@@ -49,6 +49,7 @@ fn text(code: u8) -> &'static str {
         13 => "position and count over 2^36",
         14 => "park number not held",
         15 => "no park number left: 4,294,967,295 parks have been made",
+        16 => "key all zero",
         255 => "damaged card",
         _ => "a code that the card does not give",
     }
@@ -61,10 +62,10 @@ mod tests {
 
     #[test]
     fn every_code_has_a_text_of_its_own() {
-        let codes: Vec<u8> = (1..=15).chain([255]).collect();
+        let codes: Vec<u8> = (1..=16).chain([255]).collect();
         let texts: HashSet<&str> = codes.iter().map(|&code| text(code)).collect();
         assert_eq!(texts.len(), codes.len());
-        assert!(!texts.contains(text(16)));
+        assert!(!texts.contains(text(17)));
     }
 
     #[test]

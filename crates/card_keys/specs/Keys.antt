@@ -1,16 +1,27 @@
--- What refuses a key and an IV, and what an open with them comes to.
+-- What refuses a key and an IV, which key is handed out, and what an open with them comes to.
 -- Assumes nothing.
-use mathlib.Core.List.{List}
+use mathlib.Core.Path.{_≡_}
+use mathlib.Core.Bool.{false}
+use mathlib.Core.List.{List, []}
 use Prim.Native.Nat.{ℕ}
 use lib.ListN.{take}
 use Rattle.words.specs.Tests.{pick}
-use Rattle.ciphers.specs.Table.{cipherAt}
-use Rattle.machine.specs.Machine.{Effect, refuseIf, put, opened, spareUsed}
+use Rattle.ciphers.specs.Table.{cipherAt, allZero}
+use Rattle.machine.specs.Machine.{Effect, refuseIf, put, opened, spareUsed, blankKey}
 
--- 7 where a byte beyond the cipher's lengths is not 0, else 0
+-- 7 where a byte beyond the cipher's lengths is not 0, else 16 where the key is all zero in the cipher's own length, else 0
 unfoldable pub keyCode : ℕ → (key iv : List ℕ) → ℕ
-keyCode c key iv = pick (spareUsed c key iv) 7 0
+keyCode c key iv = pick (spareUsed c key iv) 7 (pick (blankKey c key) 16 0)
+
+-- What is handed out of the bytes of a key: those of the cipher's own length, not all zero; nothing exactly where the number is not 0.
+pub record Handed (c : ℕ) (key iv part : List ℕ) : Type 0 where
+  pub own : keyCode c key iv ≡ 0 → part ≡ take (cipherAt c .key) key
+  pub not-blank : keyCode c key iv ≡ 0 → allZero part ≡ false
+  pub none : (keyCode c key iv ≡ 0 → ⊥) → part ≡ []
+  pub only : part ≡ [] → keyCode c key iv ≡ 0 → ⊥
 
 -- an open of line i with the fields of a key and an IV, once the line and the tray are judged
 abbrev pub openWith : (i size c : ℕ) → (key iv : List ℕ) → Effect
-openWith i size c key iv = refuseIf (spareUsed c key iv) 7 (put i (opened c (take (cipherAt c .key) key) (take (cipherAt c .iv) iv)) size)
+openWith i size c key iv =
+    refuseIf (spareUsed c key iv) 7
+    (refuseIf (blankKey c key) 16 (put i (opened c (take (cipherAt c .key) key) (take (cipherAt c .iv) iv)) size))

@@ -1,4 +1,4 @@
-// The key of a command: which part of tray or command it is, and what number 7 says of it and of the IV.
+// The key of a command: which part of tray or command it is, what numbers 7 and 16 say of it and of the IV, and the key that is handed out.
 // The caller must ensure that the part is there, and that key and IV have their bytes.
 ghost use mathlib.Core.Path.{_≡_};
 ghost use Prim.Native.Nat.{_+_, _≤_};
@@ -6,15 +6,15 @@ ghost use lib.ListN.{length, take, drop};
 ghost use Rattle.words.specs.Tests.{pick};
 ghost use Rattle.card_sizes.specs.Sizes.{keyLength, ivLength};
 ghost use Rattle.command.specs.Decode.{numberOf};
-ghost use Rattle.card_keys.specs.Keys.{keyCode};
+ghost use Rattle.card_keys.specs.Keys.{keyCode, Handed};
 use card_admits::all_zero;
 use card_sizes::KEY;
 use ciphers::iv_of;
 use ciphers::key_of;
 use command::Cipher;
 
-// A key: a part of the command, or a part of the tray.
-pub fn key_part<'a>(tray: &'a [u8], command: &'a [u8], own: bool, at: usize) -> &'a [u8]
+// The bytes of a key: a part of the command, or a part of the tray.
+pub fn key_field<'a>(tray: &'a [u8], command: &'a [u8], own: bool, at: usize) -> &'a [u8]
     requires { ⌜ at + keyLength ≤ length (pick own (now command) (now tray)) ⌝ }
     ensures { λ r. ⌜ now r ≡ take keyLength (drop at (pick own (now (command .entry)) (now (tray .entry)))) ⌝ }
 {
@@ -27,7 +27,7 @@ pub fn key_part<'a>(tray: &'a [u8], command: &'a [u8], own: bool, at: usize) -> 
     }
 }
 
-// The number that refuses a key and an IV, or 0: 7 where a byte beyond the cipher's lengths is not 0.
+// The number that refuses a key and an IV, or 0: 7 where a byte beyond the cipher's lengths is not 0, 16 where the key is all zero.
 pub fn key_code(cipher: Cipher, key: &[u8], iv: &[u8]) -> u8
     requires { ⌜ length (now key) ≡ keyLength ⌝ }
     requires { ⌜ length (now iv) ≡ ivLength ⌝ }
@@ -43,5 +43,31 @@ pub fn key_code(cipher: Cipher, key: &[u8], iv: &[u8]) -> u8
     if !clear {
         return 7;
     }
+    let blank = all_zero(&key[..k]);
+    if blank {
+        return 16;
+    }
     0
+}
+
+// The key of a command in the cipher's own length, which is not all zero; nothing exactly where its number is not 0.
+pub fn key_part<'a>(
+    tray: &'a [u8],
+    command: &'a [u8],
+    own: bool,
+    at: usize,
+    cipher: Cipher,
+    iv: &[u8],
+) -> &'a [u8]
+    requires { ⌜ at + keyLength ≤ length (pick own (now command) (now tray)) ⌝ }
+    requires { ⌜ length (now iv) ≡ ivLength ⌝ }
+    ensures { λ r. ⌜ Handed (numberOf cipher) (take keyLength (drop at (pick own (now (command .entry)) (now (tray .entry))))) (now (iv .entry)) (now r) ⌝ }
+{
+    let field = key_field(tray, command, own, at);
+    let code = key_code(cipher, field, iv);
+    if code != 0 {
+        return &field[..0];
+    }
+    let k = key_of(cipher);
+    &field[..k]
 }

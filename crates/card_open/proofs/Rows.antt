@@ -1,6 +1,6 @@
--- What the rows of an open ask of the tray, and the line that an open puts.
+-- What the rows of an open ask of the tray and of the key, and the line that an open puts.
 -- Assumes nothing.
-use mathlib.Core.Path.{_≡_, ap, sym, subst, _∙_}
+use mathlib.Core.Path.{_≡_, refl, ap, sym, _∙_}
 use mathlib.Core.Bool.{Bool, true, false, not}
 use mathlib.Core.List.{List}
 use Prim.Native.Nat.{ℕ, _%_, _<_, _≤_}
@@ -15,12 +15,15 @@ use Rattle.ciphers.proofs.Tests.{both-true, both-false}
 use Rattle.command.specs.declared.Cipher.{Cipher}
 use Rattle.command.specs.declared.Cipher.the-variants.{Zuc, Rabbit, Snow128, Snow256, Kcipher2, Mugi}
 use Rattle.command.specs.Decode.{numberOf}
-use Rattle.machine.specs.Machine.{Line, shown, trayOk, opened}
+use Rattle.machine.specs.Machine.{Line, shown, trayOk, opened, spareUsed, blankKey}
 use Rattle.machine.proofs.OneStream.{opened-shown}
 use Rattle.card_line.proofs.Lines.{Plain}
-use Rattle.card_keys.specs.Keys.{openWith}
+use Rattle.card_keys.specs.Keys.{keyCode, openWith}
+use Rattle.card_keys.proofs.Spare.{code-used, code-blank, code-none}
 use Rattle.card_outcome.specs.declared.Outcome.{Outcome}
+use Rattle.card_outcome.specs.Outcomes.{refusal}
 use Rattle.card_outcome.specs.Leaves.{Gives}
+use Rattle.card_outcome.proofs.Laws.{given-true, given-false, given-refusal}
 
 pub tray-uneven : (n : ℕ) → (n % 32 ≡ 0 → ⊥) → not (trayOk n) ≡ true
 tray-uneven n h = ap (λ (b : Bool). not (both b (leb n 8192))) (ne-eqb (n % 32) 0 h)
@@ -46,8 +49,18 @@ number-small Mugi = lit≤ tt
 pub opened-plain : (c : Cipher) (w : List ℕ) → length w ≡ stateWords → Plain (record { mode = 1; cipher = numberOf c; n = 0; words = w })
 opened-plain c w e = record { mode = omega arith; cipher = number-small c; full = e }
 
--- an open by its key
+-- an open that its key's number refuses
 module _ (ws text out : List ℕ) where
-  pub given-key : (i size c : ℕ) (iv : List ℕ) {r : Outcome} {ws' key key' : List ℕ} → key ≡ key' → Gives ws text out (openWith i size c key iv) r ws' out →
-      Gives ws text out (openWith i size c key' iv) r ws' out
-  given-key i size c iv {r} {ws'} e g = subst (λ (k : List ℕ). Gives ws text out (openWith i size c k iv) r ws' out) e g
+  pub given-code : (i size c : ℕ) (key iv : List ℕ) {k : ℕ} {r : Outcome} → k ≡ keyCode c key iv → (keyCode c key iv ≡ 0 → ⊥) → r ≡ refusal k →
+      Gives ws text out (openWith i size c key iv) r ws out
+  given-code i size c key iv {k} {r} e f g = by (spareUsed c key iv) (blankKey c key) refl refl
+    where
+      says : {n : ℕ} → n ≡ keyCode c key iv → r ≡ refusal n
+      says h = g ∙ ap refusal (e ∙ sym h)
+
+      by : (b d : Bool) → spareUsed c key iv ≡ b → blankKey c key ≡ d → Gives ws text out (openWith i size c key iv) r ws out
+      by true d h l = given-true ws text out _ 7 _ h (given-refusal ws text out 7 (λ z. omega arith) (says (code-used c key iv h)))
+      by false true h l =
+          given-false ws text out _ 7 _ h
+          (given-true ws text out _ 16 _ l (given-refusal ws text out 16 (λ z. omega arith) (says (code-blank c key iv h l))))
+      by false false h l = absurd (f (sym (code-none c key iv h l)))

@@ -2,8 +2,9 @@
 // The caller must ensure that the card is as a call leaves it, that the line is one of its lines, and that the command is whole.
 ghost use mathlib.Core.Path.{_≡_};
 ghost use mathlib.Core.List.{List};
-ghost use Prim.Native.Nat.{ℕ, _<_, _≤_};
-ghost use lib.ListN.{length};
+ghost use Prim.Native.Nat.{ℕ, _+_, _<_, _≤_};
+ghost use lib.ListN.{length, take, drop};
+ghost use Rattle.words.specs.Tests.{pick};
 ghost use Rattle.card_sizes.specs.Sizes.{lineCount, keyLength, ivLength, trayLength, ownLength};
 ghost use Rattle.command.specs.Decode.{numberOf};
 ghost use Rattle.command.specs.declared.Command.the-variants.{Tray, Own};
@@ -11,6 +12,7 @@ ghost use Rattle.card_layout.specs.Words.{Sound};
 ghost use Rattle.card_keys.specs.Keys.{openWith};
 ghost use Rattle.card_outcome.specs.Leaves.{callOf, Gives, Does};
 use card_keys::key_code;
+use card_keys::key_field;
 use card_keys::key_part;
 use card_outcome::Outcome;
 use card_outcome::accepted;
@@ -23,25 +25,35 @@ use card_sizes::OWN_KEY;
 use card_sizes::TRAY;
 use card_sizes::TRAY_IV;
 use ciphers::iv_of;
-use ciphers::key_of;
 use ciphers::number_of;
 use command::Cipher;
 
-// Line i is opened with a key and an IV, or refused for a byte beyond the cipher's lengths that is not 0.
-fn open_line(card: &mut [u32], i: u8, cipher: Cipher, key: &[u8], iv: &[u8], used: usize) -> Outcome
+// Line i is opened with the key that is handed out and an IV, or refused with the key's number where none is.
+fn open_line<'a>(
+    card: &mut [u32],
+    i: u8,
+    cipher: Cipher,
+    tray: &'a [u8],
+    command: &'a [u8],
+    own: bool,
+    at: usize,
+    iv: &[u8],
+    used: usize,
+) -> Outcome
     requires { ⌜ Sound (now card) × (i < lineCount) ⌝ }
-    requires { ⌜ length (now key) ≡ keyLength ⌝ }
+    requires { ⌜ at + keyLength ≤ length (pick own (now command) (now tray)) ⌝ }
     requires { ⌜ length (now iv) ≡ ivLength ⌝ }
-    ensures { λ r. ⌜ ((text out : List ℕ) → Gives (now (card .entry)) text out (openWith i used (numberOf cipher) (now (key .entry)) (now (iv .entry))) r (now (card .exit)) out) ⌝ }
+    ensures { λ r. ⌜ ((text out : List ℕ) → Gives (now (card .entry)) text out (openWith i used (numberOf cipher) (take keyLength (drop at (pick own (now (command .entry)) (now (tray .entry))))) (now (iv .entry))) r (now (card .exit)) out) ⌝ }
 {
-    let code = key_code(cipher, key, iv);
-    if code != 0 {
+    let key = key_part(tray, command, own, at, cipher, iv);
+    if key.len() == 0 {
+        let field = key_field(tray, command, own, at);
+        let code = key_code(cipher, field, iv);
         return refused(code);
     }
-    let k = key_of(cipher);
     let v = iv_of(cipher);
     let number = number_of(cipher);
-    let state = dispatch::open(cipher, &key[..k], &iv[..v]);
+    let state = dispatch::open(cipher, key, &iv[..v]);
     card_layout::put_line(number, 0, &state, card, i);
     accepted(used, 0, 0)
 }
@@ -74,8 +86,8 @@ pub fn run_tray<'a>(
     if tray.len() < end {
         return refused(10);
     }
-    let key = key_part(tray, command, false, at);
-    open_line(card, i, cipher, key, &command[TRAY_IV..TRAY], TRAY)
+    let iv = &command[TRAY_IV..TRAY];
+    open_line(card, i, cipher, tray, command, false, at, iv, TRAY)
 }
 
 // An open with the command's own key.
@@ -94,6 +106,6 @@ pub fn run_own<'a>(
     if mode != 0 {
         return refused(5);
     }
-    let key = key_part(tray, command, true, OWN_KEY);
-    open_line(card, i, cipher, key, &command[OWN_IV..OWN], OWN)
+    let iv = &command[OWN_IV..OWN];
+    open_line(card, i, cipher, tray, command, true, OWN_KEY, iv, OWN)
 }

@@ -20,7 +20,7 @@ unless refuseIf (r ∷ rs) e = refuseIf (r .given) (r .number) (unless refuseIf 
 
 -- the last number of document 01's list, with document 02's, but 255
 abbrev pub lastNumber : ℕ
-lastNumber = 15
+lastNumber = 16
 
 -- ---- the commands that a row is about, by their first bytes
 

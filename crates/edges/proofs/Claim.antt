@@ -9,7 +9,7 @@ use lib.Dec.{lit≤}
 use Rattle.ciphers.specs.Fit.{Fit}
 use Rattle.ciphers.specs.Table.{cipherAt, zuc, rabbit, snow128, snow256, kcipher2, mugi}
 use Rattle.command.specs.Decode.{lengthOf}
-use Rattle.machine.specs.Machine.{MLine, shown, based, imageOf, imageLine, byteOf, limit, decided, refuseIf, spareUsed}
+use Rattle.machine.specs.Machine.{MLine, shown, based, imageOf, imageLine, byteOf, limit, decided, refuseIf, spareUsed, blankKey}
 use Rattle.machine.specs.Parks.{noMore}
 use Rattle.words.specs.Lists.{Word}
 use Rattle.machine.specs.OneStream.{GoesOn}
@@ -20,7 +20,7 @@ use Rattle.cases.specs.Table.{Row}
 use Rattle.edges.specs.Table.{table, crypting, parking, opening}
 
 pub edges : map (λ (r : Row). r .computed) table ≡ map (λ (r : Row). r .stated) table
-unfolding table crypting parking opening noMore decided refuseIf lengthOf spareUsed cipherAt zuc rabbit snow128 snow256 kcipher2 mugi
+unfolding table crypting parking opening noMore decided refuseIf lengthOf spareUsed blankKey cipherAt zuc rabbit snow128 snow256 kcipher2 mugi
 edges = refl
 
 -- ZUC, whose unit is four bytes, at position n of the stream of S(0) = w

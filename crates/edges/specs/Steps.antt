@@ -6,6 +6,7 @@ use lib.ListN.{length, replicate, set}
 use Rattle.card_sizes.specs.Sizes.{stateWords, imageLength, resumeLength}
 use Rattle.machine.specs.Machine.{Line, Seen, Call, idleLine, cardStep}
 use Rattle.machine.specs.Parks.{Parks, freshParks, lastPark}
+use Rattle.edges.specs.Table.{trayOf}
 
 -- what is computed of a call, and what document 01 says
 pub record Step : Type 0 where
@@ -105,9 +106,13 @@ bring i k = 5 ∷ i ∷ imageOf7 k
 
 -- ---- a call, and what came of it
 
--- lent so many zeros as tray, data and out
+-- lent a tray of so many bytes, and so many zeros as data and out
 abbrev pub lent : (command : List ℕ) (tray text out : ℕ) → Call
-lent c t d o = record { command = c; tray = zeros t; text = zeros d; out = zeros o }
+lent c t d o = record { command = c; tray = trayOf t; text = zeros d; out = zeros o }
+
+-- lent these bytes as tray, and no others
+abbrev keyed : (command tray : List ℕ) → Call
+keyed c t = record { command = c; tray = t; text = []; out = [] }
 
 -- its code and its three counts
 unfoldable pub answer : Seen → Call → List ℕ
@@ -176,7 +181,7 @@ openness =
     ∷ modes eight (lent (close 6) 0 0 0) gives (0 ∷ 0 ∷ 1 ∷ 1 ∷ 1 ∷ 1 ∷ 0 ∷ 1 ∷ [])
     ∷ []
 
--- 9, 10, 7, and the opens that pass
+-- 9, 10, 7, 16, and the opens that pass
 unfoldable pub opens : List Step
 opens =
     answer eight (lent (fromTray 0 1 0 16) 33 0 0) gives refusal 9
@@ -191,6 +196,17 @@ opens =
     ∷ answer eight (lent (own 0 3 16 16) 0 0 0) gives accepted 51 0 0
     ∷ answer eight (lent (own 0 4 32 16) 0 0 0) gives accepted 51 0 0
     ∷ answer eight (lent (own 0 2 16 9) 0 0 0) gives refusal 7
+    -- a key that is all zero in the cipher's own length, from the tray and from the command
+    ∷ answer eight (keyed (fromTray 0 1 0 16) (zeros 32)) gives refusal 16
+    ∷ answer eight (keyed (fromTray 0 4 1 16) (ones 32 32 ++ zeros 32)) gives refusal 16
+    ∷ answer eight (lent (own 0 2 0 8) 0 0 0) gives refusal 16
+    ∷ answer eight (lent (own 0 4 0 16) 0 0 0) gives refusal 16
+    -- 7 before 16: a byte beyond the key's length, and one beyond the IV's
+    ∷ answer eight (keyed (fromTray 0 1 0 16) (zeros 16 ++ ones 16 1)) gives refusal 7
+    ∷ answer eight (lent (own 0 2 0 9) 0 0 0) gives refusal 7
+    -- the key's last byte alone is not 0
+    ∷ answer eight (keyed (fromTray 0 1 0 16) (zeros 15 ++ ones 17 1)) gives accepted 20 0 0
+    ∷ answer eight (keyed (fromTray 0 4 0 16) (zeros 31 ++ ones 1 1)) gives accepted 20 0 0
     ∷ modes eight (lent (fromTray 6 1 0 16) 32 0 0) gives (0 ∷ 0 ∷ 1 ∷ 1 ∷ 1 ∷ 1 ∷ 1 ∷ 1 ∷ [])
     ∷ []
 

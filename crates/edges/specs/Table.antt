@@ -1,8 +1,8 @@
--- The edges of document 01 as rows: the code that the machine gives, and the code that document 01 says.
+-- The edges of documents 01 and 02 as rows: the code that the machine gives, and the code that the documents say.
 -- Assumes nothing.
-use mathlib.Core.List.{List, [], _∷_}
-use Prim.Native.Nat.{ℕ, _-_, _^_}
-use lib.ListN.{replicate}
+use mathlib.Core.List.{List, [], _∷_, _++_}
+use Prim.Native.Nat.{ℕ, zero, suc, _-_, _/_, _^_}
+use lib.ListN.{replicate, take}
 use Rattle.command.specs.declared.Cipher.the-variants.{Zuc}
 use Rattle.command.specs.declared.Command.the-variants.{Tray, Crypt, Park}
 use Rattle.cases.specs.Table.{Row, _is_}
@@ -35,9 +35,17 @@ crypting n count text out = codeOf (decided (Crypt 0 count) (openAt n) (record {
 unfoldable pub parking : ℕ → ℕ
 parking out = codeOf (decided (Park 0) (openAt 5) (record { command = []; tray = []; text = []; out = zerosOf out }))
 
--- an open with key number k of a tray of so many bytes
+-- a tray of so many bytes, each record of which has the key 1, 0, 0, ..
+abbrev records : ℕ → List ℕ
+records zero = []
+records (suc n) = 1 ∷ zerosOf 31 ++ records n
+
+abbrev pub trayOf : ℕ → List ℕ
+trayOf n = take n (records (suc (n / 32)))
+
+-- an open with key number k of it
 unfoldable pub opening : ℕ → ℕ → ℕ
-opening tray k = codeOf (decided (Tray 0 Zuc k) allIdle (record { command = zerosOf 20; tray = zerosOf tray; text = []; out = [] }))
+opening tray k = codeOf (decided (Tray 0 Zuc k) allIdle (record { command = zerosOf 20; tray = trayOf tray; text = []; out = [] }))
 
 unfoldable pub table : List Row
 table =

@@ -248,6 +248,10 @@ ivIn o a = take (cipherAt (o .cipher) .iv) (ivField o a)
 unfoldable pub spareUsed : ℕ → List ℕ → List ℕ → Bool
 spareUsed c key iv = not (both (allZero (drop (cipherAt c .key) key)) (allZero (drop (cipherAt c .iv) iv)))
 
+-- the key is all zero in the cipher's own length
+unfoldable pub blankKey : ℕ → List ℕ → Bool
+blankKey c key = allZero (take (cipherAt c .key) key)
+
 -- a tray length that is a multiple of 32 and at most 8,192
 abbrev pub trayOk : ℕ → Bool
 trayOk n = both (eqb (n % keyLength) 0) (leb n fullTray)
@@ -278,13 +282,14 @@ effectOf (Park i) a = park i (sizeOf (Park i))
 effectOf (Resume i) a = resume i (based (imageLine (imageIn (a .command)))) (imageNumber (imageIn (a .command))) (sizeOf (Resume i))
 effectOf (Close i) a = put i idle (sizeOf (Close i))
 
--- All that a decision reads of a call: three lengths, whether a byte of the key or the IV beyond the cipher's length is not 0, and the image that a resume brings; no byte of data, and
--- none of a key or an IV within the cipher's lengths.
+-- All that a decision reads of a call: three lengths, whether a byte of the key or the IV beyond the cipher's length is not 0, whether the key is all zero within it, and the image that
+-- a resume brings; no byte of data, and nothing else of a key or an IV within the cipher's lengths.
 pub record Facts : Type 0 where
   pub tray : ℕ
   pub text : ℕ
   pub out : ℕ
   pub spare : Bool
+  pub blank : Bool
   pub image : List ℕ
 
 abbrev pub factsOf : Operands → Call → Facts
@@ -294,10 +299,11 @@ factsOf o a =
       text = length (a .text);
       out = length (a .out);
       spare = spareUsed (o .cipher) (keyField o a) (ivField o a);
+      blank = blankKey (o .cipher) (keyField o a);
       image = pick (eqb (o .kind) 5) (imageIn (a .command)) [];
     }
 
--- The refusals of a command that is read, in document 01's order; 1, 2, 1, 3 and 4 come before them, in `unread` and with the cipher that is read.
+-- The refusals of a command that is read, in the documents' order; 1, 2, 1, 3 and 4 come before them, in `unread` and with the cipher that is read.
 abbrev pub refusals : Operands → Public → Facts → List Row
 refusals o v f =
     -- open or resume on an open line
@@ -312,6 +318,8 @@ refusals o v f =
     ∷ (10 when both (fromTray o) (ltb (f .tray) (keyLength * o .key + keyLength)))
     -- a key or IV byte beyond the cipher's length is not 0
     ∷ (7 when both (opens o) (f .spare))
+    -- key all zero
+    ∷ (16 when both (opens o) (f .blank))
     -- image: cipher, n, padding, ZUC cell, Rabbit carry
     ∷ (8 when both (eqb (o .kind) 5) (not (openOk (imageLine (f .image)))))
     -- park number not held

@@ -90,5 +90,5 @@ pub record Counted (xs : List Made) : Type 0 where
   pub takes : {before : List Made} {x : Made} → Stands before x xs → (i : ℕ) (input output : List ℕ) → did x ≡ did-crypt i input output → Takes i before x input
   -- after the list no line stands past 2^36
   pub within : (i : ℕ) → lineOn (cardAfter freshCard xs) i .n ≤ limit
-  -- every code is 0 or a number from 1 to 15
+  -- every code is 0 or a number from 1 to 16
   pub codes : {before : List Made} {x : Made} → Stands before x xs → x .code ≤ lastNumber

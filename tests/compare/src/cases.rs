@@ -1,7 +1,8 @@
 //! The worked cases, edges and example of document 01, checked of the second implementation before it is used; the
-//! edges of park are those of an image of 165 bytes, and edges of the parks' numbers stand beside them.
+//! edges of park are those of an image of 165 bytes, and edges of the parks' numbers and of keys stand beside them.
 
-use crate::command::{self, numbered, IMAGE};
+use crate::cipher::LAST;
+use crate::command::{self, numbered, padded, IMAGE, IV, RECORD};
 use crate::images::image;
 use crate::machine::{Answer, Machine, END};
 use crate::parks::Parks;
@@ -10,7 +11,7 @@ use crate::{aes, hex, rabbit, snow2, zuc};
 
 /// Checks all cases; tells how many there are, or the first that fails.
 pub fn check() -> Result<usize, String> {
-    let groups = [values(), edges(), numbers(), example()];
+    let groups = [values(), edges(), numbers(), keys(), example()];
     let cases: Vec<(&str, bool)> = groups.into_iter().flatten().collect();
     match cases.iter().find(|(_, holds)| !holds) {
         Some((name, _)) => Err(format!("a case of document 01 fails: {name}")),
@@ -84,8 +85,26 @@ fn numbers() -> Vec<(&'static str, bool)> {
     ]
 }
 
+/// The edges of a key's zeros.
+fn keys() -> Vec<(&'static str, bool)> {
+    let own = |cipher: u8, key: &[u8], iv: &[u8]| {
+        code(&[], &command::open_own(0, cipher, &padded(key, RECORD), &padded(iv, IV)), 0, 0, 0)
+    };
+    let last = |place: usize| [vec![0; place], vec![1]].concat();
+    let short = |wanted: u8, key: &[u8]| [1, 2, 3, 5, 6].iter().all(|&cipher| own(cipher, key, &[]) == wanted);
+    vec![
+        ("a key of zeros is 16", (1..=LAST).all(|cipher| own(cipher, &[], &[]) == 16)),
+        ("a key of zeros is 16 with any IV", (1..=LAST).all(|cipher| own(cipher, &[], &[9; 8]) == 16)),
+        ("byte 15 alone of a key of 16 is accepted", short(0, &last(15))),
+        ("byte 31 alone of a key of 32 is accepted", own(4, &last(31), &[]) == 0),
+        ("byte 16 alone of a key of 32 is accepted", own(4, &last(16), &[]) == 0),
+        ("a byte beyond a key of zeros is 7", short(7, &last(16)) && short(7, &last(31))),
+        ("a byte beyond the IV is 7 with a key of zeros", own(2, &[], &last(8)) == 7),
+    ]
+}
+
 fn open(line: u8) -> Vec<u8> {
-    command::open_own(line, 2, &[0; 32], &[0; 16])
+    command::open_own(line, 2, &padded(&[1], RECORD), &[0; 16])
 }
 
 /// The code of a park on a machine that has made so many.
@@ -95,12 +114,12 @@ fn park_after(made: u32) -> u8 {
     machine.call(&command::park(6), &[], &[], &mut [0; IMAGE]).code
 }
 
-/// The code of a command after others on a fresh machine, with zeros in tray, data and out of the lengths given; 255
-/// if one of the others is refused or a refusal counts bytes.
+/// The code of a command after others on a fresh machine, with ones in the tray and zeros in data and out of the lengths
+/// given; 255 if one of the others is refused or a refusal counts bytes.
 fn code(before: &[Vec<u8>], command: &[u8], tray: usize, data: usize, out: usize) -> u8 {
     let mut machine = Machine::fresh();
     let accepted = before.iter().all(|earlier| machine.call(earlier, &[], &[], &mut [0; IMAGE]).code == 0);
-    let answer = machine.call(command, &vec![0; tray], &vec![0; data], &mut vec![0; out]);
+    let answer = machine.call(command, &vec![1; tray], &vec![0; data], &mut vec![0; out]);
     let counts = answer.code != 0 && answer != Answer::refused(answer.code);
     if accepted && !counts {
         answer.code
@@ -111,7 +130,7 @@ fn code(before: &[Vec<u8>], command: &[u8], tray: usize, data: usize, out: usize
 
 /// The example of `cardrun`.
 fn example() -> Vec<(&'static str, bool)> {
-    let key = command::padded(&[0x80], 32);
+    let key = padded(&[0x80], RECORD);
     let cmd = [command::open_own(0, 3, &key, &[0; 16]), command::crypt(0, 16)].concat();
     let files = Files { cmd: Some(cmd), tray: Some(Vec::new()), data: Some(vec![0; 16]) };
     let run = program::run(&files);
@@ -128,6 +147,6 @@ mod tests {
 
     #[test]
     fn cases_hold() {
-        assert_eq!(check(), Ok(37));
+        assert_eq!(check(), Ok(44));
     }
 }

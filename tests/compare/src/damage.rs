@@ -10,7 +10,7 @@ pub fn list(mut random: Random) -> Files {
     let mut files = match random.between(0, 5) {
         0..=2 => plain::list(inner),
         3 | 4 => plain::far(inner),
-        _ => odd::single(inner, random.pick(&[3, 5, 6, 7, 8, 10, 13, 14])),
+        _ => odd::single(inner, random.pick(&[3, 5, 6, 7, 8, 10, 13, 14, 16])),
     };
     for _ in 0..random.size(1, 5) {
         let file = match random.between(0, 9) {

@@ -62,7 +62,7 @@ fn opens(mut random: Random, length: usize) -> Files {
     numbers.truncate(b.random.size(0, 3));
     numbers.push(b.random.pick(&[next, last, 255]));
     for (line, number) in (0..).zip(numbers) {
-        // A cipher with a key of 32 bytes takes every record.
+        // A cipher with a key of 32 bytes takes every record but a blank one.
         let iv = plain::iv(&mut b.random, 4);
         b.put(&command::open_tray(line, 4, number, &iv));
         b.put(&command::crypt(line, 9));

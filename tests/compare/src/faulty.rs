@@ -44,14 +44,14 @@ fn image(b: &mut Builder, plan: &Plan) -> Vec<u8> {
     }
 }
 
-/// A cipher to make operands for; with fault 7, one whose key or IV leaves bytes over.
+/// A cipher to make operands for: the planned one, but with fault 7 one whose key or IV leaves bytes over.
 fn cipher(b: &mut Builder, plan: &Plan) -> u8 {
     if plan.stray_iv() {
         2
-    } else if plan.stray_key() {
+    } else if plan.stray_key() && plan.cipher == 4 {
         b.random.pick(&[1, 2, 3, 5, 6])
     } else {
-        b.random.between(1, LAST.into()) as u8
+        plan.cipher
     }
 }
 
@@ -82,15 +82,19 @@ fn open_tray(b: &mut Builder, plan: &Plan, line: u8) -> Vec<u8> {
     command::open_tray(line, operand, number, &iv)
 }
 
-/// A key number with fault 10 or a stray byte, or one with neither; any if the tray has none such.
+/// A key number with fault 10, or one whose key has the stray byte and the zeros that are planned; any if the tray has
+/// none such, and with fault 9 one of a record that is there.
 fn key_number(b: &mut Builder, plan: &Plan, cipher: u8) -> u8 {
     let records = b.tray().len() / RECORD;
     if plan.has(10) && records < 256 {
         let any = b.random.between(records as u64, 255) as u8;
         return b.random.pick(&[records as u8, 255, any]);
     }
+    if plan.has(9) && records > 0 {
+        return b.random.size(0, records.min(256) - 1) as u8;
+    }
     let stray = plan.stray_key();
-    let keys = if stray { trays::stray_keys(b.tray(), cipher) } else { trays::keys(b.tray(), cipher) };
+    let keys = trays::numbers(b.tray(), cipher, stray, plan.has(16));
     match keys.last() {
         Some(&last) if stray => last,
         Some(_) => b.random.pick(&keys),
@@ -101,7 +105,7 @@ fn key_number(b: &mut Builder, plan: &Plan, cipher: u8) -> u8 {
 fn open_own(b: &mut Builder, plan: &Plan, line: u8) -> Vec<u8> {
     let cipher = cipher(b, plan);
     let iv = iv(b, plan, cipher);
-    let mut key = plain::key(&mut b.random, cipher);
+    let mut key = if plan.has(16) { vec![0; RECORD] } else { plain::key(&mut b.random, cipher) };
     if plan.stray_key() {
         key[b.random.place(plan.place, 16, RECORD - 1)] = b.random.odd_byte();
     }

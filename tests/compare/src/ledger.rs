@@ -141,7 +141,7 @@ mod tests {
 
     /// Opens a line and parks it.
     fn park(pair: &mut (Machine, Ledger), line: u8) -> Vec<u8> {
-        call(pair, &command::open_own(line, 4, &[line; 32], &[0; 16]));
+        call(pair, &command::open_own(line, 4, &[line + 1; 32], &[0; 16]));
         call(pair, &command::park(line));
         pair.1.all().pop().unwrap()
     }

@@ -40,5 +40,7 @@ pub mod spent;
 pub mod subject;
 pub mod trays;
 pub mod words;
+#[cfg(test)]
+mod wrong;
 pub mod zeros;
 pub mod zuc;

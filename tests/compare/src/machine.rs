@@ -161,7 +161,7 @@ impl Machine {
         let starts = opens || kind == RESUME;
         let past_end = |l: &Line| l.position + count(command) as u64 > END;
         let held = || self.parks.holds(park_number(&command[2..]));
-        let rows: [(u8, &dyn Fn() -> bool); 13] = [
+        let rows: [(u8, &dyn Fn() -> bool); 14] = [
             (3, &|| line > 7),
             (4, &|| opens && by_number(command[2]).is_none()),
             (5, &|| starts && open.is_some()),
@@ -170,6 +170,7 @@ impl Machine {
             (9, &|| kind == OPEN_TRAY && (!tray.len().is_multiple_of(RECORD) || tray.len() > TRAY)),
             (10, &|| kind == OPEN_TRAY && RECORD * (usize::from(command[3]) + 1) > tray.len()),
             (7, &|| opens && stray(command, tray)),
+            (16, &|| opens && blank(command, tray)),
             (8, &|| kind == RESUME && Line::from_image(&command[2..]).is_none()),
             (14, &|| kind == RESUME && !held()),
             (13, &|| kind == CRYPT && open.is_some_and(past_end)),
@@ -240,6 +241,11 @@ fn stray(command: &[u8], tray: &[u8]) -> bool {
         let shape = cipher.shape();
         !all_zero(&record(command, tray)[shape.key..]) || !all_zero(&iv(command)[shape.iv..])
     })
+}
+
+/// Whether the key is all zero in the cipher's own length; the cipher's number must be one.
+fn blank(command: &[u8], tray: &[u8]) -> bool {
+    by_number(command[2]).is_some_and(|cipher| all_zero(&record(command, tray)[..cipher.shape().key]))
 }
 
 /// The line that an accepted open makes: S(0) at unit 0, position 0.

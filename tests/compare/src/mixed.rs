@@ -1,15 +1,16 @@
-//! Lists of single calls from a seed: the calls of several command lists mixed on one card, with crypts, parks and
-//! resumes between them, so that numbers are held, taken up and replaced, and images come again.
+//! Lists of single calls from a seed: the calls of several command lists mixed on one card, with crypts, parks, resumes
+//! and opens between them, so that numbers are held, taken up and replaced, images come again, and keys of every make
+//! are given to a card in use.
 
 use crate::calls::{self, OwnCall};
-use crate::command::{self, numbered, park_number, IMAGE, PARK, RESUME};
-use crate::images;
+use crate::cipher::LAST;
+use crate::command::{self, numbered, park_number, IMAGE, PARK, RECORD, RESUME};
 use crate::ledger::{Fate, Ledger};
-use crate::lists;
 use crate::machine::{Answer, Machine};
 use crate::parks::{self, Parks};
 use crate::program::{self, Call};
 use crate::random::Random;
+use crate::{images, lists, plain, trays};
 
 /// A list of calls, and the card that it begins with: all lines idle, no number held, and perhaps parks made.
 pub struct CallList {
@@ -29,7 +30,7 @@ pub fn list(seed: u64, number: u64) -> CallList {
     let mut parts: Vec<Part> = (0..3).map(|i| Part::of(&mut random, seed, 3 * number + i)).collect();
     let (mut table, mut calls) = (Table { machine: start.clone(), ledger: Ledger::after(made) }, Vec::new());
     while !parts.is_empty() {
-        if random.chance(25) {
+        if random.chance(30) {
             calls.push(table.added(&mut random));
         }
         let which = random.size(0, parts.len() - 1);
@@ -94,6 +95,23 @@ impl Part {
     }
 }
 
+/// An open of an idle line with any cipher. The key is one of three in the tray, where it is put, or the command's own:
+/// at times it is blank, or so but for one byte.
+fn opened(random: &mut Random, idle: &[u8], tray: &mut [u8]) -> Vec<u8> {
+    let (line, cipher) = (random.pick(idle), random.between(1, LAST.into()) as u8);
+    let (number, iv) = (random.size(0, 2), plain::iv(random, cipher));
+    let key = match random.between(0, 9) {
+        0..=2 => vec![0; RECORD],
+        3 => random.alone(RECORD),
+        _ => trays::record(random),
+    };
+    if random.chance(50) {
+        return command::open_own(line, cipher, &key, &iv);
+    }
+    tray[RECORD * number..][..RECORD].copy_from_slice(&key);
+    command::open_tray(line, cipher, number as u8, &iv)
+}
+
 /// The mixed card while its list is made, and what became of its parks.
 struct Table {
     machine: Machine,
@@ -109,10 +127,13 @@ impl Table {
         (answer.code, self.machine.parks().made())
     }
 
-    /// Makes a crypt or a park on an open line or a resume on an idle one, and gives it.
+    /// Makes a crypt or a park on an open line or a resume or an open on an idle one, and gives it.
     fn added(&mut self, random: &mut Random) -> OwnCall {
         let (open, idle): (Vec<u8>, Vec<u8>) = (0..8).partition(|&line| self.machine.open(line).is_some());
-        let command = if open.is_empty() || !idle.is_empty() && random.chance(40) {
+        let mut tray = trays::records(random, 3);
+        let command = if !idle.is_empty() && random.chance(12) {
+            opened(random, &idle, &mut tray)
+        } else if open.is_empty() || !idle.is_empty() && random.chance(40) {
             command::resume(random.pick(&idle), &self.image(random))
         } else if random.chance(50) {
             command::crypt(random.pick(&open), random.between(0, 50) as u16)
@@ -120,7 +141,7 @@ impl Table {
             command::park(random.pick(&open))
         };
         let out = calls::about(random, IMAGE, usize::MAX);
-        let call = OwnCall { command, tray: Vec::new(), data: random.bytes(50), out: random.bytes(out) };
+        let call = OwnCall { command, tray, data: random.bytes(50), out: random.bytes(out) };
         self.call(&call);
         call
     }
@@ -167,7 +188,7 @@ mod tests {
         (0..60).for_each(|number| tally.add(&subject.hold(8, number).unwrap()));
         assert!(tally.resumes[Resume::AsParked as usize] > 180, "{tally:?}");
         assert!(tally.resumes.iter().all(|&count| count > 4), "{tally:?}");
-        assert!(tally.codes[15] > 60, "{tally:?}");
+        assert!(tally.codes[15] > 60 && tally.codes[16] > 30, "{tally:?}");
     }
 
     #[test]

@@ -2,6 +2,7 @@
 //! beside it. What is written down is held of the second implementation, and the subject is held against that.
 
 mod altered;
+mod blank;
 mod case;
 mod examples;
 mod frames;
@@ -24,6 +25,7 @@ pub fn all() -> Vec<Case> {
         examples::cases(),
         refusals::cases(),
         order::cases(),
+        blank::cases(),
         frames::cases(),
         parks::cases(),
         numbers::cases(),
@@ -50,7 +52,7 @@ mod tests {
 
     #[test]
     fn cases_hold_and_have_names_of_their_own() {
-        assert_eq!(check(), Ok(1142));
+        assert_eq!(check(), Ok(1337));
         let cases = all();
         let names: HashSet<&str> = cases.iter().map(Case::name).collect();
         assert_eq!(names.len(), cases.len());

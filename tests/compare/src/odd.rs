@@ -2,6 +2,7 @@
 //! besides, so that the order of the refusals shows. What is added after it must not be run.
 
 use crate::builder::Builder;
+use crate::cipher::LAST;
 use crate::command::{CLOSE, OPEN_OWN, OPEN_TRAY, RESUME};
 use crate::plan::{self, Plan};
 use crate::program::{Files, READ};
@@ -42,6 +43,14 @@ pub fn stray(mut random: Random, index: usize) -> Files {
     let kind = [OPEN_TRAY, OPEN_OWN][index % 2];
     let any = Plan::new(&mut random, kind, &[]);
     list(random, Plan { faults: vec![7], in_iv: [true, false][index / 2 % 2], place: index / 4, ..any })
+}
+
+/// A list that ends with a blank key, by this index in an open from the tray or not, and with each cipher.
+pub fn blank(mut random: Random, index: usize) -> Files {
+    let kind = [OPEN_TRAY, OPEN_OWN][index % 2];
+    let cipher = 1 + (index / 2 % usize::from(LAST)) as u8;
+    let any = Plan::new(&mut random, kind, &[]);
+    list(random, Plan { faults: vec![16], cipher, ..any })
 }
 
 /// Some accepted commands, then the planned one, then perhaps some that aren't run.
@@ -107,6 +116,7 @@ fn open_line(b: &mut Builder) -> u8 {
 mod tests {
     use super::*;
     use crate::program;
+    use std::collections::HashSet;
 
     fn last_code(files: &Files) -> u8 {
         program::run(files).calls.last().map_or(0, |(_, answer)| answer.code)
@@ -114,10 +124,23 @@ mod tests {
 
     #[test]
     fn every_number_is_met() {
-        for number in 1..=14 {
+        for number in (1..=14).chain([16]) {
             let met = |k: &u64| last_code(&single(Random::new(2, *k), number)) == number;
             assert!((0..12).filter(met).count() >= 6, "{number}");
         }
+    }
+
+    #[test]
+    fn blank_keys_are_met_for_each_cipher_by_both_opens() {
+        let mut met = HashSet::new();
+        for index in 0..2 * usize::from(LAST) {
+            let files = blank(Random::new(2, 0), index);
+            let run = program::run(&files);
+            let (call, answer) = run.calls.last().unwrap();
+            assert_eq!(answer.code, 16);
+            met.insert((call.command[0], call.command[2]));
+        }
+        assert_eq!(met.len(), 2 * usize::from(LAST));
     }
 
     #[test]

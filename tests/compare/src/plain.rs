@@ -180,25 +180,25 @@ pub fn frame(random: &mut Random, most: usize) -> usize {
     wanted.min(most).min(usize::from(u16::MAX))
 }
 
-/// A key of the cipher's length with zeros after it, as command 02 has it; at times all zero.
+/// A key of the cipher's length with zeros after it, as command 02 has it; at times one byte of it alone isn't 0.
 pub fn key(random: &mut Random, cipher: u8) -> Vec<u8> {
     let length = by_number(cipher).map_or(RECORD, |c| c.shape().key);
-    operand(random, length, RECORD)
+    padded(&operand(random, length, Random::alone), RECORD)
 }
 
 /// An IV of the cipher's length with zeros after it; at times all zero.
 pub fn iv(random: &mut Random, cipher: u8) -> Vec<u8> {
     let length = by_number(cipher).map_or(IV, |c| c.shape().iv);
-    operand(random, length, IV)
+    padded(&operand(random, length, |_, length| vec![0; length]), IV)
 }
 
-fn operand(random: &mut Random, length: usize, whole: usize) -> Vec<u8> {
-    let bytes = match random.between(0, 19) {
-        0 => vec![0; length],
-        1 => vec![0xFF; length],
+/// Mostly any bytes, at times all ff or as `least` has them.
+fn operand(random: &mut Random, length: usize, least: fn(&mut Random, usize) -> Vec<u8>) -> Vec<u8> {
+    match random.between(0, 19) {
+        0 | 1 => least(random, length),
+        2 => vec![0xFF; length],
         _ => random.bytes(length),
-    };
-    padded(&bytes, whole)
+    }
 }
 
 #[cfg(test)]

@@ -1,6 +1,7 @@
 //! What is to be wrong with the last command of a list that ends in a refusal: the kind of command, and the numbers
 //! whose conditions are to hold.
 
+use crate::cipher::LAST;
 use crate::command::{CLOSE, CRYPT, OPEN_OWN, OPEN_TRAY, PARK, RESUME};
 use crate::random::Random;
 use crate::{images, spent, trays};
@@ -8,8 +9,8 @@ use crate::{images, spent, trays};
 /// The numbers that a command of each kind can be refused with on a card that began as a fresh one, in their order.
 pub fn numbers(kind: u8) -> &'static [u8] {
     match kind {
-        OPEN_TRAY => &[1, 2, 3, 4, 5, 9, 10, 7],
-        OPEN_OWN => &[1, 2, 3, 4, 5, 7],
+        OPEN_TRAY => &[1, 2, 3, 4, 5, 9, 10, 7, 16],
+        OPEN_OWN => &[1, 2, 3, 4, 5, 7, 16],
         CRYPT => &[1, 2, 3, 6, 13, 11, 12],
         PARK => &[1, 2, 3, 6, 12],
         RESUME => &[1, 2, 3, 5, 8, 14],
@@ -32,6 +33,8 @@ pub fn pairs() -> Vec<(u8, u8, u8)> {
 pub struct Plan {
     pub kind: u8,
     pub faults: Vec<u8>,
+    /// The cipher of an open, unless a stray byte is planned that it leaves no place for.
+    pub cipher: u8,
     /// For number 8: the image's fault.
     pub image: usize,
     /// For number 14: in which way the image's number isn't held.
@@ -48,8 +51,9 @@ impl Plan {
         if random.chance(20) {
             faults.push(random.pick(numbers(kind)));
         }
+        let cipher = random.between(1, LAST.into()) as u8;
         let (image, way) = (random.size(0, 3 * images::FAULTS - 1), random.size(0, spent::WAYS - 1));
-        Plan { kind, faults, image, way, in_iv: random.chance(40), place: random.size(0, 2) }
+        Plan { kind, faults, cipher, image, way, in_iv: random.chance(40), place: random.size(0, 2) }
     }
 
     pub fn has(&self, number: u8) -> bool {
@@ -66,19 +70,26 @@ impl Plan {
         self.has(7) && !self.stray_iv()
     }
 
-    /// A tray in which the faults can be had.
+    /// A tray in which the faults can be had; with number 9 or 10 it is of zeros alone where 16 is planned.
     pub fn tray(&self, random: &mut Random) -> Vec<u8> {
-        if self.has(9) {
+        let from_tray = self.kind == OPEN_TRAY;
+        let mut tray = if self.has(9) {
             trays::bad_length(random)
-        } else if self.has(12) {
-            trays::useful(random)
-        } else if self.has(7) && self.kind == OPEN_TRAY {
-            trays::with_stray(random, self.place)
         } else if self.has(10) {
             let count = random.pick(&[0, 1, 2, 16, 254, 255]);
             trays::records(random, count)
+        } else if self.has(12) {
+            trays::useful(random)
+        } else if self.has(16) && from_tray {
+            trays::with_blank(random, self.place)
+        } else if self.has(7) && from_tray {
+            trays::with_stray(random, self.place)
         } else {
             trays::any(random)
+        };
+        if self.has(16) && (self.has(9) || self.has(10)) {
+            tray.fill(0);
         }
+        tray
     }
 }

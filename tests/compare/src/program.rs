@@ -105,7 +105,7 @@ mod tests {
 
     #[test]
     fn bytes_beyond_the_limit_are_not_read() {
-        let open = command::open_own(0, 3, &[0; 32], &[0; 16]);
+        let open = command::open_own(0, 3, &command::padded(&[1], 32), &[0; 16]);
         let files = Files {
             cmd: Some([open, command::crypt(0, 16_384), command::crypt(0, 1)].concat()),
             data: Some(vec![0; 16_385]),

@@ -68,6 +68,14 @@ impl Random {
     pub fn bytes(&mut self, length: usize) -> Vec<u8> {
         (0..length).map(|_| self.byte()).collect()
     }
+
+    /// Bytes of which one alone isn't 0: the first, the last or any.
+    pub fn alone(&mut self, length: usize) -> Vec<u8> {
+        let (mut bytes, which) = (vec![0; length], self.size(0, 2));
+        let place = self.place(which, 0, length - 1);
+        bytes[place] = self.odd_byte();
+        bytes
+    }
 }
 
 #[cfg(test)]

@@ -50,8 +50,8 @@ pub fn summary(tally: &Tally) -> String {
 /// The numbers and the kinds of resume that were never met. Number 15, 255 and an image from before the list are asked
 /// for only if cards are handed in: a fresh card doesn't come to them.
 pub fn missing(tally: &Tally, handed_in: bool) -> Vec<String> {
-    let numbers = (0..16).zip(tally.codes).chain([(255, tally.damaged)]);
-    let numbers = numbers.filter(|&(number, count)| count == 0 && (handed_in || number < 15));
+    let numbers = (0..).zip(tally.codes).chain([(255, tally.damaged)]);
+    let numbers = numbers.filter(|&(number, count)| count == 0 && (handed_in || ![15, 255].contains(&number)));
     let kinds = Resume::NAMES.iter().enumerate().filter(|&(kind, _)| tally.resumes[kind] == 0);
     let kinds = kinds.filter(|&(kind, _)| handed_in || kind != Resume::Earlier as usize);
     numbers.map(|(number, _)| number.to_string()).chain(kinds.map(|(_, name)| format!("resume: {name}"))).collect()
@@ -87,12 +87,12 @@ mod tests {
 
     #[test]
     fn what_was_never_met_is_told() {
-        let mut tally = Tally { codes: [1; 16], damaged: 1, resumes: [1; 8], ..Tally::default() };
+        let mut tally = Tally { codes: [1; 17], damaged: 1, resumes: [1; 8], ..Tally::default() };
         assert!(missing(&tally, true).is_empty());
-        (tally.codes[14], tally.codes[15], tally.damaged) = (0, 0, 0);
-        (tally.resumes[2], tally.resumes[7]) = (0, 0);
-        assert_eq!(missing(&tally, false), ["14", "resume: 14, number 0"]);
-        let all = ["14", "15", "255", "resume: 14, number 0", "resume: 14, from before the list"];
+        tally.codes[14..].fill(0);
+        (tally.damaged, tally.resumes[2], tally.resumes[7]) = (0, 0, 0);
+        assert_eq!(missing(&tally, false), ["14", "16", "resume: 14, number 0"]);
+        let all = ["14", "15", "16", "255", "resume: 14, number 0", "resume: 14, from before the list"];
         assert_eq!(missing(&tally, true), all);
     }
 

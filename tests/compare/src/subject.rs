@@ -16,7 +16,7 @@ pub struct Tally {
     pub lists: u64,
     pub calls: u64,
     pub bytes: u64,
-    pub codes: [u64; 16],
+    pub codes: [u64; 17],
     pub damaged: u64,
     pub resumes: [u64; Resume::NAMES.len()],
 }

@@ -5,15 +5,17 @@ use crate::command::{padded, RECORD};
 use crate::machine::TRAY;
 use crate::random::Random;
 
-/// A record: mostly a key of 16 bytes and zeros, else one of 32, one of zeros alone, a short one, or one with a
-/// stray byte.
+/// A record: mostly a key of 16 bytes and zeros, else one of 32, a blank one, a short one, one byte alone, or one with
+/// a stray byte.
 pub fn record(random: &mut Random) -> Vec<u8> {
     let mut record = random.bytes(RECORD);
     match random.between(0, 19) {
-        0..=11 => record[16..].fill(0),
-        12..=15 => (),
-        16 => record.fill(0),
-        17 => record[8..].fill(0),
+        0..=9 => record[16..].fill(0),
+        10..=13 => (),
+        14 => record.fill(0),
+        15 => record[8..].fill(0),
+        16 => record = padded(&random.alone(16), RECORD),
+        17 => record = random.alone(RECORD),
         _ => {
             record[16..].fill(0);
             let place = random.size(16, RECORD - 1);
@@ -42,18 +44,29 @@ pub fn any(random: &mut Random) -> Vec<u8> {
 /// A tray of up to eight records, the first of which serves every cipher.
 pub fn useful(random: &mut Random) -> Vec<u8> {
     let more = random.size(0, 7);
-    let mut tray = records(random, 1 + more);
-    tray[16..RECORD].fill(0);
+    let mut tray = padded(&random.bytes(16), RECORD);
+    tray.extend(records(random, more));
     tray
 }
 
 /// Such a tray with one record after it that has a stray byte beyond a key of 16, at a place that `which` names.
 pub fn with_stray(random: &mut Random, which: usize) -> Vec<u8> {
-    let mut tray = useful(random);
-    let mut stray = padded(&random.bytes(16), RECORD);
-    stray[random.place(which, 16, RECORD - 1)] = random.odd_byte();
-    tray.extend(stray);
-    tray
+    let key = random.bytes(16);
+    let stray = stray(random, which, &key);
+    [useful(random), stray].concat()
+}
+
+/// Such a tray with two records after it that begin with 16 zeros: one with a stray byte beyond them, and a blank one.
+pub fn with_blank(random: &mut Random, which: usize) -> Vec<u8> {
+    let stray = stray(random, which, &[0; 16]);
+    [useful(random), stray, vec![0; RECORD]].concat()
+}
+
+/// A record of a key of 16 bytes with a stray byte beyond it.
+fn stray(random: &mut Random, which: usize, key: &[u8]) -> Vec<u8> {
+    let mut record = padded(key, RECORD);
+    record[random.place(which, 16, RECORD - 1)] = random.odd_byte();
+    record
 }
 
 /// A tray whose length number 9 refuses.
@@ -71,20 +84,18 @@ pub fn bad_length(random: &mut Random) -> Vec<u8> {
 
 /// The key numbers that open a line with this cipher; none if the tray's length is refused.
 pub fn keys(tray: &[u8], cipher: u8) -> Vec<u8> {
-    let clean = |record: &[u8]| by_number(cipher).is_some_and(|c| record[c.shape().key..].iter().all(|&b| b == 0));
-    matching(tray, clean)
+    numbers(tray, cipher, false, false)
 }
 
-/// The key numbers whose record number 7 refuses for this cipher.
-pub fn stray_keys(tray: &[u8], cipher: u8) -> Vec<u8> {
-    let stray = |record: &[u8]| by_number(cipher).is_some_and(|c| record[c.shape().key..].iter().any(|&b| b != 0));
-    matching(tray, stray)
-}
-
-fn matching(tray: &[u8], wanted: impl Fn(&[u8]) -> bool) -> Vec<u8> {
+/// The key numbers whose record has a stray byte for this cipher or has none, and a key that is blank or one that
+/// isn't; none if the tray's length is refused.
+pub fn numbers(tray: &[u8], cipher: u8, stray: bool, blank: bool) -> Vec<u8> {
     if !tray.len().is_multiple_of(RECORD) || tray.len() > TRAY {
         return Vec::new();
     }
+    let length = by_number(cipher).map_or(RECORD, |c| c.shape().key);
+    let zero = |bytes: &[u8]| bytes.iter().all(|&byte| byte == 0);
+    let wanted = |record: &[u8]| zero(&record[..length]) == blank && zero(&record[length..]) != stray;
     let numbered = tray.chunks_exact(RECORD).zip(0..=255u8);
     numbered.filter(|(record, _)| wanted(record)).map(|(_, number)| number).collect()
 }

@@ -58,7 +58,7 @@ fn some(number: u32) -> Vec<u8> {
 /// Command 02 with a key and an IV of the cipher's lengths.
 fn open(line: u8, cipher: u8) -> Vec<u8> {
     let (key, iv) = by_number(cipher).map_or((RECORD, IV), |c| (c.shape().key, c.shape().iv));
-    command::open_own(line, cipher, &padded(&vec![cipher; key], RECORD), &padded(&vec![0xA5; iv], IV))
+    command::open_own(line, cipher, &padded(&vec![cipher + 1; key], RECORD), &padded(&vec![0xA5; iv], IV))
 }
 
 /// A crypt of no bytes, which changes nothing.
@@ -68,12 +68,13 @@ pub fn empty_crypt(turn: u8) -> Vec<u8> {
 
 /// Calls with the codes that they meet on the card: all that are accepted, and some for each refusal.
 pub fn calls(turn: u8) -> Vec<(u8, OwnCall)> {
-    [accepted(turn), unread(turn), unfit(turn), unlent(turn)].concat()
+    [accepted(turn), unread(turn), unfit(turn), unlent(turn), blank(turn)].concat()
 }
 
-/// A call with a tray of one key and ten bytes of data, and as many bytes in out as an image has and one more.
+/// A call with a tray of one key of 16 bytes and ten bytes of data, and as many bytes in out as an image has and one
+/// more.
 fn call(command: Vec<u8>) -> OwnCall {
-    OwnCall { command, tray: vec![0; RECORD], data: vec![0x11; 10], out: vec![0x22; IMAGE + 1] }
+    OwnCall { command, tray: padded(&[8; 16], RECORD), data: vec![0x11; 10], out: vec![0x22; IMAGE + 1] }
 }
 
 fn accepted(turn: u8) -> Vec<(u8, OwnCall)> {
@@ -151,12 +152,41 @@ fn unlent(turn: u8) -> Vec<(u8, OwnCall)> {
     let from_tray = || call(command::open_tray(idle, 1, 0, &[0; IV]));
     let crypt = || call(command::crypt(busy, 10));
     vec![
-        (9, OwnCall { tray: vec![0; RECORD + 1], ..from_tray() }),
-        (9, OwnCall { tray: vec![0; 8_224], ..from_tray() }),
+        (9, OwnCall { tray: vec![1; RECORD + 1], ..from_tray() }),
+        (9, OwnCall { tray: vec![1; 8_224], ..from_tray() }),
         (10, OwnCall { tray: vec![], ..from_tray() }),
         (11, OwnCall { data: vec![], ..crypt() }),
         (12, OwnCall { out: vec![0x22; 9], ..crypt() }),
         (12, OwnCall { out: vec![], ..crypt() }),
         (12, OwnCall { out: vec![0x22; IMAGE - 1], ..call(command::park(busy)) }),
     ]
+}
+
+/// Keys of zeros by both opens, alone and with a fault that comes before 16; and keys of which one byte alone isn't 0.
+fn blank(turn: u8) -> Vec<(u8, OwnCall)> {
+    let (busy, idle) = (line(ZUC, turn), line(IDLE, turn));
+    let own = |line: u8, cipher: u8, key: &[u8], iv: &[u8]| {
+        call(command::open_own(line, cipher, &padded(key, RECORD), &padded(iv, IV)))
+    };
+    let from_tray = |line: u8, cipher: u8, key: &[u8], iv: &[u8]| {
+        let call = call(command::open_tray(line, cipher, 0, &padded(iv, IV)));
+        OwnCall { tray: padded(key, RECORD), ..call }
+    };
+    let alone = |place: usize| [vec![0; place], vec![1]].concat();
+    let mut calls = vec![
+        (0, own(idle, 1, &alone(15), &[])),
+        (0, own(idle, 4, &alone(16), &[])),
+        (0, from_tray(idle, 2, &alone(15), &[])),
+        (0, from_tray(idle, 4, &alone(31), &[])),
+        (5, own(busy, 1, &[], &[])),
+        (7, own(idle, 3, &alone(31), &[])),
+        (7, own(idle, 2, &[], &alone(15))),
+        (7, from_tray(idle, 6, &alone(16), &[])),
+        (7, from_tray(idle, 2, &[], &alone(8))),
+        (9, OwnCall { tray: vec![0; RECORD + 1], ..from_tray(idle, 5, &[], &[]) }),
+        (10, OwnCall { tray: vec![0; RECORD], ..call(command::open_tray(idle, 4, 1, &[0; IV])) }),
+    ];
+    calls.extend((1..=LAST).map(|cipher| (16, own(idle, cipher, &[], &[7; 8]))));
+    calls.extend((1..=LAST).map(|cipher| (16, from_tray(idle, cipher, &[], &[]))));
+    calls
 }

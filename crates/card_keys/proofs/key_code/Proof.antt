@@ -1,15 +1,17 @@
--- `card_keys::key_code` meets its contract: a byte beyond the cipher's lengths gives 7.
+-- `card_keys::key_code` meets its contract: a byte beyond the cipher's lengths gives 7, then a key all zero within its length 16.
 -- Assumes nothing.
 use Prim.Native.Nat.{ℕ, _≤_}
 use mathlib.Core.Path.{_≡_, ap, sym, _∙_}
 use mathlib.Core.Bool.{true, false}
 use native.Mathlib.Omega.{arith}
 use lib.ListN.{length, drop}
+use lib.Seq.{length-take-le}
 use borrow.Author.Tests.{not-true, not-false}
 use Rattle.keystream.proofs.Parts.{tail-part}
 use Rattle.ciphers.specs.Table.{allZero}
 use Rattle.command.specs.Decode.{numberOf}
-use Rattle.card_keys.proofs.Spare.{key-fits, iv-fits, spare-key, spare-iv, spare-none, code-used, code-none}
+use Rattle.machine.specs.Machine.{spareUsed}
+use Rattle.card_keys.proofs.Spare.{key-fits, iv-fits, spare-key, spare-iv, spare-none, blank-is, code-used, code-blank, code-none}
 use borrow.Author.Needs.{needs}
 use Rattle.card_keys.proofs.key_code.Statement.{statement}
 use Rattle.card_keys.proofs.key_code.Tie as tie
@@ -64,18 +66,42 @@ returns-2 c =
     (spare-iv (numberOf (a .cipher)) _ _ (a .key .now) (a .iv .now) (p .before .key-of .ensures) (p .iv-of .ensures)
     (sym (ap allZero (tail-part _ (a .iv .now))) ∙ sym (c .before .all-zero2 .ensures) ∙ not-true _ (c .if2 .taken)))
 
+-- ---- once no byte beyond the lengths is used
+
+abbrev plain : tie.Else2 → tie.After-iv-of
+plain c = c .before .before .before .before .before .before
+
+none : (c : tie.Else2) → spareUsed (numberOf (start (plain c) .args .cipher)) (start (plain c) .args .key .now) (start (plain c) .args .iv .now) ≡ false
+none c =
+    let k = c .before .before .before in
+    let p = plain c in
+    let a = start p .args in
+    spare-none (numberOf (a .cipher)) _ _ (a .key .now) (a .iv .now) (p .before .key-of .ensures) (p .iv-of .ensures)
+    (sym (ap allZero (tail-part _ (a .key .now))) ∙ sym (k .before .all-zero .ensures) ∙ not-false _ (k .if1 .left))
+    (sym (ap allZero (tail-part _ (a .iv .now))) ∙ sym (c .before .all-zero2 .ensures) ∙ not-false _ (c .if2 .left))
+
+slice-aggregate-all-zero : tie.Need-slice-aggregate-all-zero
+slice-aggregate-all-zero c = let p = plain (c .before) in sym (length-take-le _ (start p .args .key .now) (key-in p))
+
 returns-3 : tie.Need-returns-3
 returns-3 c =
-    let k = c .before .before .before in
-    let p = k .before .before .before in
+    let e = c .before .before .before in
+    let p = plain e in
     let a = start p .args in
-    code-none (numberOf (a .cipher)) (a .key .now) (a .iv .now)
-    (spare-none (numberOf (a .cipher)) _ _ (a .key .now) (a .iv .now) (p .before .key-of .ensures) (p .iv-of .ensures)
-    (sym (ap allZero (tail-part _ (a .key .now))) ∙ sym (k .before .all-zero .ensures) ∙ not-false _ (k .if1 .left))
-    (sym (ap allZero (tail-part _ (a .iv .now))) ∙ sym (c .before .all-zero2 .ensures) ∙ not-false _ (c .if2 .left)))
+    code-blank (numberOf (a .cipher)) (a .key .now) (a .iv .now) (none e)
+    (blank-is (numberOf (a .cipher)) (a .key .now) (p .before .key-of .ensures) (sym (c .before .all-zero3 .ensures) ∙ c .if3 .taken))
+
+returns-4 : tie.Need-returns-4
+returns-4 c =
+    let e = c .before .before .before in
+    let p = plain e in
+    let a = start p .args in
+    code-none (numberOf (a .cipher)) (a .key .now) (a .iv .now) (none e)
+    (blank-is (numberOf (a .cipher)) (a .key .now) (p .before .key-of .ensures) (sym (c .before .all-zero3 .ensures) ∙ c .if3 .left))
 
 pub key-code-spec : {M : Type 1} → statement M
 key-code-spec =
     tie.close
     (tie.spec (λ c κs. search needs) (λ c κs. search needs) sub-all-zero part-all-zero-start (λ c. search needs) (λ c κs. search needs) returns
-    sub-all-zero-2 part-all-zero-start-2 (λ c. search needs) (λ c κs. search needs) returns-2 returns-3)
+    sub-all-zero-2 part-all-zero-start-2 (λ c. search needs) (λ c κs. search needs) returns-2 slice-aggregate-all-zero (λ c κs. search needs) returns-3
+    returns-4)

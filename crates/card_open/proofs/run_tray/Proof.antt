@@ -1,18 +1,15 @@
 -- `card_open::run_tray` meets its contract: each test is a row of the table, and the key is the part of the tray that its number names.
 -- Assumes nothing.
-use mathlib.Core.Path.{_≡_, ap, _∙_}
+use mathlib.Core.Path.{_≡_}
 use mathlib.Core.Bool.{Bool, true, false, not}
-use Prim.Native.Nat.{ℕ, _*_}
 use native.Mathlib.Omega.{arith}
 use lib.Dec.{eqb}
-use lib.ListN.{length, take, drop, length-drop}
-use lib.Seq.{length-take-le}
 use borrow.Author.Tests.{eq-eqb, ne-eqb, lt-ltb, le-ltb}
-use Rattle.command.specs.Decode.{numberOf, lengthOf}
+use Rattle.command.specs.Decode.{lengthOf}
 use Rattle.machine.specs.Machine.{decided, refuseIf, isIdle}
 use Rattle.card_outcome.specs.Leaves.{publicOf}
 use Rattle.card_outcome.proofs.Laws.{busy-is, given-true, given-false, given-refusal}
-use Rattle.card_open.proofs.Rows.{tray-uneven, tray-long, tray-good, given-key}
+use Rattle.card_open.proofs.Rows.{tray-uneven, tray-long, tray-good}
 use borrow.Author.Needs.{needs}
 use Rattle.card_open.proofs.run_tray.Statement.{statement}
 use Rattle.card_open.proofs.run_tray.Tie as tie
@@ -64,37 +61,21 @@ returns-4 c =
     (given-true w t o _ _ _ (lt-ltb _ _ (c .before .if4 .taken))
     (given-refusal w t o 10 (λ z. omega arith) (c .refused4 .ensures))))
 
--- ---- once all rows of the tray are passed
-
-abbrev opens : tie.Else4 → tie.Start
-opens c = start (c .before .before .before .before)
-
-open-line-requires : tie.Need-open-line-requires
-open-line-requires c κs =
-    let k = c .before .before in
-    let s = opens (k .before) in
-    let a = s .args in
-    let m = a .command .now in
-    let n = a .tray .now in
-    (s .pre .0, (ap length (k .key-part .ensures) ∙ length-take-le 32 (drop (32 * a .number) n) (omega (arith, length-drop (32 * a .number) n, k .before .if4 .left)), length-take-le 16 (drop 4 m) (omega (arith, length-drop 4 m, s .pre .1))))
-
 returns-5 : tie.Need-returns-5
 unfolding decided refuseIf lengthOf
 returns-5 c =
     let q = c .before .before in
-    let k = q .before .before .before in
-    let e4 = k .before in
+    let e4 = q .before .before .before in
     let e3 = e4 .before in
-    let a = opens e4 .args in
-    let w = a .card .now in
-    λ t o. given-false w t o _ _ _ (idle (e3 .before .before))
+    let e1 = e3 .before .before in
+    let w = start (e1 .before) .args .card .now in
+    λ t o. given-false w t o _ _ _ (idle e1)
     (given-false w t o _ _ _ (tray-good _ (e3 .before .if2 .left) (e3 .if3 .left))
-    (given-false w t o _ _ _ (le-ltb _ _ (e4 .if4 .left))
-    (given-key w t o (a .i) 20 (numberOf (a .cipher)) (take 16 (drop 4 (a .command .now))) (k .key-part .ensures) (q .open-line .ensures t o))))
+    (given-false w t o _ _ _ (le-ltb _ _ (e4 .if4 .left)) (q .open-line .ensures t o)))
 
 pub run-tray-spec : {M : Type 1} → statement M
 run-tray-spec =
     tie.close
     (tie.spec (λ c κs. search needs) (λ c κs. search needs) (λ c. search needs) returns (λ c κs. search needs) (λ c. search needs) returns-2
     (λ c κs. search needs) (λ c. search needs) returns-3 (λ c. search needs) (λ c. search needs) (λ c κs. search needs) (λ c. search needs) returns-4
-    (λ c κs. search needs) (λ c. search needs) (λ c. search needs) (λ c. search needs) open-line-requires (λ c. search needs) returns-5)
+    (λ c. search needs) (λ c. search needs) (λ c. search needs) (λ c κs. search needs) (λ c. search needs) returns-5)

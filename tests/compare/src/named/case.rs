@@ -127,7 +127,7 @@ mod tests {
 
     #[test]
     fn what_is_wrongly_written_down_is_told() {
-        let open = command::open_own(0, 3, &[0; 32], &[0; 16]);
+        let open = command::open_own(0, 3, &command::padded(&[1], 32), &[0; 16]);
         let case = |end: &str| Case::new("a", &[open.clone(), command::crypt(0, 2)], end).data(vec![0; 2]);
         assert_eq!(case("end 2 0").check(), Ok(()));
         assert!(case("end 2 1").check().is_err());

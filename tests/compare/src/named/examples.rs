@@ -1,9 +1,10 @@
-//! Document 01's example for each cipher, and annex C: every keystream by both ways to open a line, and every
-//! sample state by a park.
+//! Document 01's example for each cipher, and annex C: every keystream by both ways to open a line, but for those of a
+//! key of zeros, which both refuse; and every sample state by a park.
 
 use super::published::{name, unit, Published};
 use super::{altered, Case};
 use crate::annex::{self, Row};
+use crate::cipher::by_number;
 use crate::command::{self, padded, IMAGE, RECORD, STATE_AT};
 use crate::random::Random;
 use crate::{hex, images, zeros};
@@ -12,41 +13,73 @@ pub fn cases() -> Vec<Case> {
     let keystreams = annex::keystreams();
     let states = annex::states();
     let numbered = |rows: &[Row]| (1..=rows.len()).collect::<Vec<_>>();
-    let streams = numbered(&keystreams).into_iter().zip(&keystreams).filter_map(|(i, row)| keystream(i, row));
+    let streams = numbered(&keystreams).into_iter().zip(&keystreams).flat_map(|(i, row)| keystream(i, row));
     let parked = numbered(&states).into_iter().zip(&states).filter_map(|(i, row)| state(i, row));
     FIRST.iter().map(example).chain(streams).chain(parked).chain(zero_cells()).collect()
 }
 
-/// Cipher, the key's first byte (zeros follow), and the first sixteen keystream bytes of a zero IV: document 01 and
-/// C.2.1, C.7.1, C.4.2, C.3.1, C.6.1, C.1.1.
-const FIRST: [(u8, u8, &str); 6] = [
-    (3, 0x80, "8d590ae9a74a7d056dc9ca74b72d1a45"),
-    (1, 0x00, "27bede74018082da87d4e5b69f18bf66"),
-    (2, 0x00, "edb70567375dcd7cd89554f85e27a7c6"),
-    (4, 0x80, "0b5bcce20323e28e0fc203809c66ab73"),
-    (5, 0x00, "f871ebef945b7272e40c04941dff0537"),
-    (6, 0x00, "c76e14e70836e6b6cb0e9c5a0bf03e1e"),
+/// Cipher, the first bytes of key and IV (zeros follow), and the first sixteen keystream bytes: document 01 and C.2.1,
+/// C.7.1, C.4.2, C.3.1, C.6.2, C.1.1.
+const FIRST: [(u8, &str, &str, &str); 6] = [
+    (3, "80", "", "8d590ae9a74a7d056dc9ca74b72d1a45"),
+    (1, "3d4c4be96a82fdaeb58f641db17b455b", "84319aa8de6915ca1f6bda6bfbd8c766", "14f1c2723279c4194b8ea41d0cc80863"),
+    (2, "000102030405060708090a0b0c0d0e0f", "", "a8f7e69b6940a78d136a5c154a157952"),
+    (4, "80", "", "0b5bcce20323e28e0fc203809c66ab73"),
+    (5, "80", "00000004000000030000000200000001", "9b753faa404a0ef55291940618177fdd"),
+    (6, "513400b104a0599130ad00fc48d759e0", "", "bddfad5f04b88625c3adace156d1c199"),
 ];
 
 /// An open with the command's own key, and sixteen zeros.
-fn example((cipher, first, stream): &(u8, u8, &str)) -> Case {
-    let open = command::open_own(0, *cipher, &padded(&[*first], RECORD), &[0; 16]);
+fn example((cipher, key, iv, stream): &(u8, &str, &str, &str)) -> Case {
+    let [key, iv, stream] = [key, iv, stream].map(|digits| hex::read(digits).unwrap_or_default());
+    let open = command::open_own(0, *cipher, &padded(&key, RECORD), &padded(&iv, command::IV));
     let case = Case::new(
         format!("document 01's example, {}", name(*cipher)),
         &[open, vec![0x03, 0x00, 0x00, 0x10]],
         "end 2 0",
     );
     let table = "call code cmd data out\n1 0 51 0 0\n2 0 4 16 16\nend 2 0\n";
-    case.data(vec![0; 16]).table(table).out(&hex::read(stream).unwrap_or_default())
+    case.data(vec![0; 16]).table(table).out(&stream)
 }
 
-/// A keystream of annex C, with the command's own key and with the tray's.
-fn keystream(number: usize, row: &Row) -> Option<Case> {
-    let p = Published::of(row)?;
+/// A keystream of annex C, with its key from the command and from the tray.
+fn keystream(number: usize, row: &Row) -> Vec<Case> {
+    let name = format!("keystream {number} of annex C, {}", row.clause);
+    match Published::of(row) {
+        Some(p) if p.blank() => blank(&name, &p).into(),
+        Some(p) => vec![by_both(name, &p)],
+        None => Vec::new(),
+    }
+}
+
+/// A keystream of any other key.
+fn by_both(name: String, p: &Published) -> Case {
     let count = p.stream.len() as u16;
     let commands = [p.open(0), command::crypt(0, count), p.open_tray(1, 0), command::crypt(1, count)];
-    let case = Case::new(format!("keystream {number} of annex C, {}", row.clause), &commands, "end 4 0");
-    Some(case.tray(p.key.clone()).data(vec![0; 2 * p.stream.len()]).out(&p.stream.repeat(2)))
+    let case = Case::new(name, &commands, "end 4 0").tray(p.key.clone());
+    case.data(vec![0; 2 * p.stream.len()]).out(&p.stream.repeat(2))
+}
+
+/// A keystream of a key of zeros: both opens refuse the key; an image with S(0), which is no key, goes on with the
+/// keystream.
+fn blank(name: &str, p: &Published) -> [Case; 3] {
+    let (count, image) = (p.stream.len(), images::image(p.cipher, 0, 1, &start(p)));
+    let resumed = [altered::resumed(1, &image), vec![command::crypt(1, count as u16)]].concat();
+    let refused = |how: &str, open: Vec<u8>| Case::new(format!("{name}, {how}: number 16"), &[open], "end 0 16");
+    let out = [altered::written(1), p.stream.clone()].concat();
+    [
+        refused("the command's own key", p.open(0)),
+        refused("the tray's key", p.open_tray(1, 0)).tray(p.key.clone()),
+        Case::new(format!("{name}, from S(0)"), &resumed, "end 4 0").data(vec![0; count]).out(&out),
+    ]
+}
+
+/// The state bytes of S(0), by the cipher itself.
+fn start(p: &Published) -> Vec<u8> {
+    by_number(p.cipher).map_or(Vec::new(), |c| {
+        let shape = c.shape();
+        c.state_bytes(&c.init(&p.key[..shape.key], &p.iv[..shape.iv]))
+    })
 }
 
 /// A sample state of annex C: it stands in the image of a line parked i units on.

@@ -1,17 +1,18 @@
-//! The order of the refusals: 1 for empty, 2, 1 for cut short, 3, 4, 5, 6, 15, 9, 10, 7, 8, 14, 13, 11, 12. For each
-//! command one with all the faults that it can have at once, then with the first mended, and so on; and pairs of faults
-//! with no other. No command can have both of 1 for empty and 2, 5 and 6, 6 and 9, 15 and 9, 7 and 8, or 14 and 13. For
-//! 15 a card must be handed in.
+//! The order of the refusals: 1 for empty, 2, 1 for cut short, 3, 4, 5, 6, 15, 9, 10, 7, 16, 8, 14, 13, 11, 12. For
+//! each command one with all the faults that it can have at once, then with the first mended, and so on; and pairs of
+//! faults with no other. No command can have both of 1 for empty and 2, 5 and 6, 6 and 9, 15 and 9, 10 and 16, 16 and 8,
+//! or 14 and 13: a key that isn't in the tray isn't all zero either. For 15 a card must be handed in.
 
+use super::published::name;
 use super::refusals::open;
 use super::{altered, full, positions, Case};
 use crate::cipher::LAST;
-use crate::command::{self, numbered, IMAGE, RECORD};
+use crate::command::{self, numbered, padded, IMAGE, RECORD};
 use crate::machine::END;
 
 pub fn cases() -> Vec<Case> {
     let each = [from_tray(), own(), crypt(), park(), resume(), close()];
-    let pairs = [pairs(), pairs_of_images(), pairs_of_trays(), pairs_of_crypts()];
+    let pairs = [pairs(), pairs_of_images(), pairs_of_trays(), pairs_of_keys(), seven_and_sixteen(), pairs_of_crypts()];
     each.into_iter().chain(pairs).flatten().collect()
 }
 
@@ -39,34 +40,47 @@ const NONE: u8 = LAST + 1;
 /// An IV with a byte beyond Rabbit's eight.
 const STRAY: [u8; 16] = [0, 0, 0, 0, 0, 0, 0, 0, 0, 0, 0, 0, 0, 0, 0, 1];
 
+/// A tray of so many bytes, in each record of which the first byte alone isn't 0.
+fn keys(length: usize) -> Vec<u8> {
+    (0..length).map(|place| u8::from(place % RECORD == 0)).collect()
+}
+
 fn from_tray() -> Vec<Case> {
-    let all = || command::open_tray(8, NONE, 200, &STRAY);
+    let all = |number: u8| command::open_tray(8, NONE, number, &STRAY);
     let with = |line: u8, cipher: u8, number: u8, iv: &[u8]| command::open_tray(line, cipher, number, iv);
     let bad = |case: Case| case.tray(vec![0; 33]);
     let good = |case: Case| case.tray(vec![0; 32]);
     vec![
-        bad(case("open from the tray, 2, 1, 3, 4, 9, 10, 7", cut(unknown(all())), 2)),
-        bad(case("open from the tray, 1, 3, 4, 9, 10, 7", cut(all()), 1)),
-        bad(case("open from the tray, 3, 4, 9, 10, 7", all(), 3)),
+        bad(case("open from the tray, 2, 1, 3, 4, 9, 10, 7", cut(unknown(all(200))), 2)),
+        bad(case("open from the tray, 1, 3, 4, 9, 10, 7", cut(all(200)), 1)),
+        bad(case("open from the tray, 3, 4, 9, 10, 7", all(200), 3)),
         bad(case("open from the tray, 4, 5, 9, 10, 7", with(0, NONE, 200, &STRAY), 4)),
         bad(case("open from the tray, 5, 9, 10, 7", with(0, 2, 200, &STRAY), 5)),
         bad(case("open from the tray, 9, 10, 7", with(1, 2, 200, &STRAY), 9)),
         good(case("open from the tray, 10, 7", with(1, 2, 200, &STRAY), 10)),
-        good(case("open from the tray, 7", with(1, 2, 0, &STRAY), 7)),
-        good(case("open from the tray, all mended", with(1, 2, 0, &[0; 16]), 0)),
+        bad(case("open from the tray, 2, 1, 3, 4, 9, 7, 16", cut(unknown(all(0))), 2)),
+        bad(case("open from the tray, 1, 3, 4, 9, 7, 16", cut(all(0)), 1)),
+        bad(case("open from the tray, 3, 4, 9, 7, 16", all(0), 3)),
+        bad(case("open from the tray, 4, 5, 9, 7, 16", with(0, NONE, 0, &STRAY), 4)),
+        bad(case("open from the tray, 5, 9, 7, 16", with(0, 2, 0, &STRAY), 5)),
+        bad(case("open from the tray, 9, 7, 16", with(1, 2, 0, &STRAY), 9)),
+        good(case("open from the tray, 7, 16", with(1, 2, 0, &STRAY), 7)),
+        good(case("open from the tray, 16", with(1, 2, 0, &[0; 16]), 16)),
+        case("open from the tray, all mended", with(1, 2, 0, &[0; 16]), 0).tray(keys(32)),
     ]
 }
 
 fn own() -> Vec<Case> {
     let with = |line: u8, cipher: u8, iv: &[u8]| command::open_own(line, cipher, &[0; RECORD], iv);
     vec![
-        case("open with its own key, 2, 1, 3, 4, 7", cut(unknown(with(8, NONE, &STRAY))), 2),
-        case("open with its own key, 1, 3, 4, 7", cut(with(8, NONE, &STRAY)), 1),
-        case("open with its own key, 3, 4, 7", with(8, NONE, &STRAY), 3),
-        case("open with its own key, 4, 5, 7", with(0, NONE, &STRAY), 4),
-        case("open with its own key, 5, 7", with(0, 2, &STRAY), 5),
-        case("open with its own key, 7", with(1, 2, &STRAY), 7),
-        case("open with its own key, all mended", with(1, 2, &[0; 16]), 0),
+        case("open with its own key, 2, 1, 3, 4, 7, 16", cut(unknown(with(8, NONE, &STRAY))), 2),
+        case("open with its own key, 1, 3, 4, 7, 16", cut(with(8, NONE, &STRAY)), 1),
+        case("open with its own key, 3, 4, 7, 16", with(8, NONE, &STRAY), 3),
+        case("open with its own key, 4, 5, 7, 16", with(0, NONE, &STRAY), 4),
+        case("open with its own key, 5, 7, 16", with(0, 2, &STRAY), 5),
+        case("open with its own key, 7, 16", with(1, 2, &STRAY), 7),
+        case("open with its own key, 16", with(1, 2, &[0; 16]), 16),
+        case("open with its own key, all mended", command::open_own(1, 2, &keys(32), &[0; 16]), 0),
     ]
 }
 
@@ -143,7 +157,7 @@ fn close() -> Vec<Case> {
 
 /// Two faults and no other.
 fn pairs() -> Vec<Case> {
-    let own = |line: u8, cipher: u8| command::open_own(line, cipher, &[0; RECORD], &[0; 16]);
+    let own = |line: u8, cipher: u8| command::open_own(line, cipher, &keys(32), &[0; 16]);
     let stray = command::open_own(0, 1, &[1; RECORD], &[0; 16]);
     vec![
         case("2 before 1 for cut short", vec![0x07, 0x00, 0x00], 2),
@@ -177,20 +191,57 @@ fn pairs_of_trays() -> Vec<Case> {
         command::open_tray(line, cipher, number, &iv)
     };
     vec![
-        case("1 for cut short before 9", cut(open(1, 4, 0, 0)), 1).tray(vec![0; 33]),
-        case("3 before 9", open(8, 4, 0, 0), 3).tray(vec![0; 33]),
+        case("1 for cut short before 9", cut(open(1, 4, 0, 0)), 1).tray(keys(33)),
+        case("3 before 9", open(8, 4, 0, 0), 3).tray(keys(33)),
         case("3 before 10", open(8, 4, 0, 0), 3),
-        case("4 before 9", open(1, NONE, 0, 0), 4).tray(vec![0; 33]),
+        case("4 before 9", open(1, NONE, 0, 0), 4).tray(keys(33)),
         case("4 before 10", open(1, NONE, 0, 0), 4),
-        case("5 before 9", open(0, 4, 0, 0), 5).tray(vec![0; 33]),
+        case("5 before 9", open(0, 4, 0, 0), 5).tray(keys(33)),
         case("5 before 10", open(0, 4, 0, 0), 5),
-        case("9 before 10, key 0 of 31 bytes", open(1, 4, 0, 0), 9).tray(vec![0; 31]),
-        case("9 before 10, key 1 of 33 bytes", open(1, 4, 1, 0), 9).tray(vec![0; 33]),
-        case("9 before 7", open(1, 2, 0, 1), 9).tray(vec![0; 33]),
-        case("9 before 7, a tray too long", open(1, 2, 0, 1), 9).tray(vec![0; 8_224]),
-        case("10 before 7", open(1, 2, 1, 1), 10).tray(vec![0; 32]),
-        case("7 with a key that is in the tray", open(1, 2, 1, 1), 7).tray(vec![0; 64]),
+        case("9 before 10, key 0 of 31 bytes", open(1, 4, 0, 0), 9).tray(keys(31)),
+        case("9 before 10, key 1 of 33 bytes", open(1, 4, 1, 0), 9).tray(keys(33)),
+        case("9 before 7", open(1, 2, 0, 1), 9).tray(keys(33)),
+        case("9 before 7, a tray too long", open(1, 2, 0, 1), 9).tray(keys(8_224)),
+        case("10 before 7", open(1, 2, 1, 1), 10).tray(keys(32)),
+        case("7 with a key that is in the tray", open(1, 2, 1, 1), 7).tray(keys(64)),
     ]
+}
+
+/// Keys of zeros with one other fault, by both opens; and trays of zeros that haven't the key.
+fn pairs_of_keys() -> Vec<Case> {
+    let own = |line: u8, cipher: u8| command::open_own(line, cipher, &[0; RECORD], &[0; 16]);
+    let open = |line: u8, cipher: u8, number: u8| command::open_tray(line, cipher, number, &[0; 16]);
+    let blank = |name: &str, last: Vec<u8>, code: u8, length: usize| case(name, last, code).tray(vec![0; length]);
+    vec![
+        case("1 for cut short before 16", cut(own(1, 1)), 1),
+        case("3 before 16", own(8, 1), 3),
+        case("4 before 16", own(1, NONE), 4),
+        case("5 before 16", own(0, 1), 5),
+        blank("1 for cut short before 16, from the tray", cut(open(1, 1, 0)), 1, 32),
+        blank("3 before 16, from the tray", open(8, 1, 0), 3, 32),
+        blank("4 before 16, from the tray", open(1, NONE, 0), 4, 32),
+        blank("5 before 16, from the tray", open(0, 1, 0), 5, 32),
+        blank("9 before 16", open(1, 4, 0), 9, 33),
+        blank("9 before 16, a tray too long", open(1, 4, 0), 9, 8_224),
+        blank("9 before 16, the last key of a tray too long", open(1, 4, 255), 9, 8_224),
+        blank("10 and no 16, key 1 of a tray of one blank record", open(1, 4, 1), 10, 32),
+        blank("10 and no 16, key 255 of a tray of 255 blank records", open(1, 4, 255), 10, 8_160),
+        blank("16 with a key that is in the tray", open(1, 4, 1), 16, 64),
+    ]
+}
+
+/// Keys of zeros with one byte beyond the cipher's lengths, by both opens.
+fn seven_and_sixteen() -> Vec<Case> {
+    let byte = |place: usize, length: usize| padded(&[vec![0; place], vec![1]].concat(), length);
+    let beyond_key = |(cipher, place)| (cipher, format!("key byte {place}"), byte(place, RECORD), vec![0; 16]);
+    let beyond_iv = |place| (2, format!("IV byte {place}"), vec![0; RECORD], byte(place, 16));
+    let places = [1, 2, 3, 5, 6].into_iter().flat_map(|cipher| [(cipher, 16), (cipher, 31)]);
+    let both = |(cipher, what, key, iv): (u8, String, Vec<u8>, Vec<u8>)| {
+        let what = format!("7 before 16, {}, {what}", name(cipher));
+        let tray = case(&format!("{what}, from the tray"), command::open_tray(1, cipher, 0, &iv), 7).tray(key.clone());
+        [case(&what, command::open_own(1, cipher, &key, &iv), 7), tray]
+    };
+    places.map(beyond_key).chain([8, 15].map(beyond_iv)).flat_map(both).collect()
 }
 
 /// What `crypt` has beside these needs out to be full.

@@ -31,6 +31,11 @@ impl Published {
         command::open_tray(line, self.cipher, number, &self.iv)
     }
 
+    /// Whether the key is all zero.
+    pub fn blank(&self) -> bool {
+        self.key.iter().all(|&byte| byte == 0)
+    }
+
     pub fn name(&self) -> &'static str {
         name(self.cipher)
     }
@@ -40,11 +45,11 @@ impl Published {
     }
 }
 
-/// For each cipher the last keystream of annex C that has 32 bytes or more.
+/// For each cipher the last keystream of annex C that has 32 bytes or more and a key that isn't all zero.
 pub fn each() -> Vec<Published> {
     let rows = annex::keystreams();
     let last = |cipher: u8| {
-        let fits = |p: &Published| p.cipher == cipher && p.stream.len() >= 32;
+        let fits = |p: &Published| p.cipher == cipher && p.stream.len() >= 32 && !p.blank();
         rows.iter().rev().filter_map(Published::of).find(fits)
     };
     (1..=LAST).filter_map(last).collect()

@@ -1,6 +1,6 @@
-//! A case for each refusal, 1 to 14, and the same for each command that can meet it. Number 8 has its conditions in
-//! `images`, 12 its limits in `full`, 13 in `positions` and 14 in `numbers`. The program never calls with an empty
-//! command, and doesn't come to as many parks as number 15 needs.
+//! A case for each refusal, 1 to 14 and 16, and the same for each command that can meet it. Number 8 has its conditions
+//! in `images`, 12 its limits in `full`, 13 in `positions`, 14 in `numbers` and 16 in `blank`. The program never calls
+//! with an empty command, and doesn't come to as many parks as number 15 needs.
 
 use super::published::name;
 use super::{altered, full, positions, Case};
@@ -18,11 +18,11 @@ pub fn open(line: u8) -> Vec<u8> {
     command::open_own(line, 4, &[1; RECORD], &[2; 16])
 }
 
-/// One of each command for a line, operands 0 but for the cipher, which is 4.
+/// One of each command for a line, operands 0 but for the cipher, which is 4, and the key, whose bytes are 1.
 pub fn each(line: u8) -> [Vec<u8>; 6] {
     [
         command::open_tray(line, 4, 0, &[0; 16]),
-        command::open_own(line, 4, &[0; RECORD], &[0; 16]),
+        command::open_own(line, 4, &[1; RECORD], &[0; 16]),
         command::crypt(line, 0),
         command::park(line),
         command::resume(line, &padded(&[4], IMAGE)),
@@ -49,6 +49,7 @@ const TEN: &str = "call code cmd data out\n1 10 0 0 0\nend 0 10\n";
 const ELEVEN: &str = "call code cmd data out\n1 0 51 0 0\n2 11 0 0 0\nend 1 11\n";
 const THIRTEEN: &str = "call code cmd data out\n1 0 51 0 0\n2 0 2 0 165\n3 0 167 0 0\n4 13 0 0 0\nend 3 13\n";
 const FOURTEEN: &str = "call code cmd data out\n1 0 51 0 0\n2 0 2 0 165\n3 0 167 0 0\n4 14 0 0 0\nend 3 14\n";
+const SIXTEEN: &str = "call code cmd data out\n1 16 0 0 0\nend 0 16\n";
 
 /// One case for each number, with its table; that of 12 is long.
 fn numbers() -> Vec<Case> {
@@ -61,17 +62,18 @@ fn numbers() -> Vec<Case> {
         refused(1, "a crypt of three bytes", &[], vec![3, 0, 0]).table(ONE),
         refused(2, "a first byte of 07", &[], vec![7, 0, 0, 0]).table(TWO),
         refused(3, "a close of line 8", &[], vec![6, 8]).table(THREE),
-        refused(4, "an open with cipher 7", &[], command::open_own(0, 7, &[0; RECORD], &[0; 16])).table(FOUR),
+        refused(4, "an open with cipher 7", &[], command::open_own(0, 7, &[1; RECORD], &[0; 16])).table(FOUR),
         refused(5, "an open on an open line", &[open(0)], open(0)).table(FIVE),
         refused(6, "a park of an idle line", &[], vec![4, 0]).table(SIX),
         refused(7, "ZUC with 17 key bytes", &[], command::open_own(0, 1, &key, &[0; 16])).table(SEVEN),
         refused(8, "an image of zeros", &[], command::resume(0, &[0; IMAGE])).table(EIGHT),
-        refused(9, "a tray of 31 bytes", &[], from_tray()).tray(vec![0; 31]).table(NINE),
+        refused(9, "a tray of 31 bytes", &[], from_tray()).tray(vec![1; 31]).table(NINE),
         refused(10, "an empty tray", &[], from_tray()).table(TEN),
         refused(11, "a byte asked for and none there", &[open(0)], vec![3, 0, 0, 1]).table(ELEVEN),
         full::by_parks(),
         refused(13, "two bytes and one left", &far, vec![3, 0, 0, 2]).table(THIRTEEN),
         refused(14, "an image that was taken up", &altered::resumed(0, &altered::written(1)), again).table(FOURTEEN),
+        refused(16, "an empty tray record", &[], from_tray()).tray(vec![0; RECORD]).table(SIXTEEN),
     ]
 }
 
@@ -133,9 +135,9 @@ fn lines() -> Vec<Case> {
 /// Both opens with cipher numbers that are none.
 fn ciphers() -> Vec<Case> {
     let of = |cipher: u8| {
-        let own = command::open_own(0, cipher, &[0; RECORD], &[0; 16]);
+        let own = command::open_own(0, cipher, &[1; RECORD], &[0; 16]);
         let from_tray = command::open_tray(0, cipher, 0, &[0; 16]);
-        let tray = refused(4, format!("cipher {cipher} from the tray"), &[], from_tray).tray(vec![0; RECORD]);
+        let tray = refused(4, format!("cipher {cipher} from the tray"), &[], from_tray).tray(vec![1; RECORD]);
         [refused(4, format!("cipher {cipher}"), &[], own), tray]
     };
     [0, 7, 8, 128, 255].into_iter().flat_map(of).collect()
@@ -147,16 +149,15 @@ fn open_or_idle() -> Vec<Case> {
         1 | 2 | 5 => refused(5, format!("command 0{} on an open line", command[0]), &[open(3)], command),
         _ => refused(6, format!("command 0{} on an idle line", command[0]), &[open(2)], command),
     };
-    each(3).into_iter().map(|command| of(command).tray(vec![0; RECORD])).collect()
+    each(3).into_iter().map(|command| of(command).tray(vec![1; RECORD])).collect()
 }
 
 /// The first and last byte beyond the key and the IV, for each cipher that leaves any, by both opens.
 fn stray() -> Vec<Case> {
-    let mut all = Vec::new();
+    let (mut all, good) = (Vec::new(), padded(&[9; 16], RECORD));
     for cipher in [1, 2, 3, 5, 6] {
         for place in [16, 31] {
-            let mut key = vec![9; 16];
-            key.resize(RECORD, 0);
+            let mut key = good.clone();
             key[place] = 1;
             all.extend(stray_pair(cipher, format!("key byte {place}"), &key, &[0; 16]));
         }
@@ -164,7 +165,7 @@ fn stray() -> Vec<Case> {
     for place in [8, 15] {
         let mut iv = [0; 16];
         iv[place] = 1;
-        all.extend(stray_pair(2, format!("IV byte {place}"), &[0; RECORD], &iv));
+        all.extend(stray_pair(2, format!("IV byte {place}"), &good, &iv));
     }
     all.push(Case::new("32 key bytes and 16 IV bytes are cipher 4's", &[open(0)], "end 1 0"));
     all
@@ -180,10 +181,10 @@ fn stray_pair(cipher: u8, what: String, key: &[u8], iv: &[u8]) -> [Case; 2] {
 /// Trays of lengths that are refused, and key numbers that aren't in them.
 fn trays() -> Vec<Case> {
     let open = |number: u8| command::open_tray(0, 4, number, &[0; 16]);
-    let bad = |length: usize| refused(9, format!("a tray of {length}"), &[], open(0)).tray(vec![0; length]);
+    let bad = |length: usize| refused(9, format!("a tray of {length}"), &[], open(0)).tray(vec![1; length]);
     let none = |(records, number): (usize, u8)| {
         let what = format!("key {number} of a tray of {records} keys");
-        refused(10, what, &[], open(number)).tray(vec![0; records * RECORD])
+        refused(10, what, &[], open(number)).tray(vec![1; records * RECORD])
     };
     let lengths = [1, 33, 63, 8_191, 8_193, 8_224, 16_384, 16_416];
     lengths.into_iter().map(bad).chain([(0, 255), (1, 1), (2, 2), (255, 255)].map(none)).collect()
