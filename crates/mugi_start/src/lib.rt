@@ -1,5 +1,5 @@
 // The start of MUGI from key and IV (ISO/IEC 18033-4, 8.1.2): the state of a key, with an IV, and S(0).
-// A caller holds the lengths of key and IV, sixteen bytes each, and lends the table that `mugi_tables` makes.
+// The caller must ensure the lengths of key and IV, sixteen bytes each, and passes by reference the table that `mugi_tables` makes.
 ghost use mathlib.Core.Path.{_≡_};
 ghost use Prim.Native.Nat.{_+_, _≤_};
 ghost use lib.ListN.{length};
@@ -36,7 +36,7 @@ fn block_at(s: &[u8], at: usize) -> u64
 }
 
 // Three blocks of a key or an IV.
-fn spread(k: &[u8]) -> [u64; 3]
+pub fn spread(k: &[u8]) -> [u64; 3]
     requires { ⌜ length (now k) ≡ 16 ⌝ }
     ensures { λ r. ⌜ r ≡ spreadOf (now (k .entry)) ⌝ }
 {
@@ -46,14 +46,14 @@ fn spread(k: &[u8]) -> [u64; 3]
 }
 
 // The blocks of an IV added to a.
-fn add(a: [u64; 3], v: [u64; 3]) -> [u64; 3]
+pub fn add(a: [u64; 3], v: [u64; 3]) -> [u64; 3]
     ensures { λ r. ⌜ r ≡ added a v ⌝ }
 {
     [a[0] ^ v[0], a[1] ^ v[1], a[2] ^ v[2]]
 }
 
 // A turn of rho1, without b.
-fn turn(a: [u64; 3], t: &[u32; 256]) -> [u64; 3]
+pub fn turn(a: [u64; 3], t: &[u32; 256]) -> [u64; 3]
     requires { ⌜ now t ≡ mixingList ⌝ }
     ensures { λ r. ⌜ r ≡ turned a ⌝ }
 {

@@ -140,9 +140,9 @@ pub fn print128() {
         7,
     );
     heading(b"C.2.2");
-    remark(
-        b"the scan has 8ecacddb for 8ecaccdb, 6fbbfcbf for 6fbbfcfb at times -16 and -15, and fffffffc for ffffffff in 01 at time -26 and 00 at time -25",
-    );
+    remark(b"the scan has 8ecacddb for 8ecaccdb from time -28 to time -13");
+    remark(b"6fbbfcbf for 6fbbfcfb at times -16 and -15");
+    remark(b"and fffffffc for ffffffff in 01 at time -26 and 00 at time -25");
     states128();
 }
 

@@ -78,6 +78,13 @@ pub fn time(i: usize, before: usize) {
     end();
 }
 
+// A line of a name and a number.
+pub fn listing(name: &[u8], i: usize) {
+    put(name);
+    io::print_decimal(STDOUT_FILENO, i as u64);
+    end();
+}
+
 // The value of a hexadecimal digit, and 0 of any other byte.
 fn digit(c: u8) -> u8 {
     if b'0' <= c && c <= b'9' {
