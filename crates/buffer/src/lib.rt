@@ -1,5 +1,5 @@
-// Bytes or words put to the start of a lent buffer; what is behind them stays.
-// A caller holds that the buffer has room for them.
+// Bytes or words put to the start of a borrowed buffer; what is behind them stays.
+// The caller must ensure that the buffer has room for them.
 ghost use mathlib.Core.Path.{_≡_};
 ghost use mathlib.Core.List.{_++_};
 ghost use Prim.Native.Nat.{_≤_};

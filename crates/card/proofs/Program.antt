@@ -16,11 +16,11 @@ use Rattle.card_outcome.proofs.Refusals.{refused-whole as words-refused-whole, 
 use Rattle.card_outcome.proofs.Every.{Stored, every-call, stored-next, runOf, calls-of, fresh-stored}
 use Rattle.card.specs.declared.Card.{Card}
 use Rattle.card.specs.declared.Answer.{Answer}
-use Rattle.card.specs.Ran.{seenOf, fresh, answerOf, recorded, Promised, Ran, none, call}
+use Rattle.card.specs.Ran.{seenOf, fresh, answerOf, recorded, CallPromise, Ran, none, call}
 use Rattle.card.proofs.Calls.{promised, called}
 
 -- what is recorded of a call is what the card's step shows
-recorded-is : (c : Card) (a : Call) (r : Answer) (o : List ℕ) → Promised c a r o → recorded a r o ≡ madeOf a (cardStep (seenOf c) a)
+recorded-is : (c : Card) (a : Call) (r : Answer) (o : List ℕ) → CallPromise c a r o → recorded a r o ≡ madeOf a (cardStep (seenOf c) a)
 unfolding outcomeOf outOf
 recorded-is c a r o h =
     let k = called c a r o h in
@@ -38,7 +38,7 @@ ran-steps : {c : Card} {xs : List Made} → Ran c xs → Steps (seenOf c) xs
 ran-steps none = no-steps
 ran-steps (call {c = c} {a = a} {r = r} {o = o} {xs = xs} h t) =
     subst (λ (x : Made). Steps (seenOf c) (x ∷ xs)) (sym (recorded-is c a r o h))
-    (one-step (h .bytes) (subst (λ (s : Seen). Steps s xs) (h .seen-is) (ran-steps t)))
+    (one-step (h .borrowed) (subst (λ (s : Seen). Steps s xs) (h .seen-is) (ran-steps t)))
 
 from-fresh : {xs : List Made} → Ran fresh xs → Steps freshCard xs
 from-fresh {xs} h = subst (λ (s : Seen). Steps s xs) fresh-words (ran-steps h)
@@ -55,7 +55,7 @@ counted xs h = steps-counted xs (from-fresh h)
 pub parked-calls : (xs : List Made) → Ran fresh xs → ParkedCalls xs
 parked-calls xs h = steps-parked-calls xs (from-fresh h)
 
-module _ (c : Card) (a : Call) (r : Answer) (o : List ℕ) (h : Promised c a r o) where
+module _ (c : Card) (a : Call) (r : Answer) (o : List ℕ) (h : CallPromise c a r o) where
   -- A refusal returns the card and out unchanged and three zeros, whatever card was handed in.
   pub refused-whole : (r .outcome .code ≡ 0 → ⊥) → Untouched (c .words) (a .out) (r .outcome) (r .card .words) o
   refused-whole = words-refused-whole (c .words) a (called c a r o h)
@@ -72,7 +72,7 @@ ran-of [] b c m t = none
 ran-of (a ∷ more) b c m t =
     let r = answerOf c a in
     let o = outOf (cardStep (seenOf c) a) (a .out) in
-    let h : Promised c a r o = promised c a _ _ o (every-call t a (b .0)) (b .0) in
+    let h : CallPromise c a r o = promised c a _ _ o (every-call t a (b .0)) (b .0) in
     subst (λ (x : Made). Ran c (x ∷ runOf (r .card .words) more)) (recorded-is c a r o h) (call h (ran-of more (b .1) (r .card) (step m a .machine) (stored-next t a (b .0))))
 
 pub every-list : (calls : List Call) → BytesIn calls → (xs : List Made) × (Ran fresh xs × (callsOf xs ≡ calls))

@@ -27,11 +27,11 @@ unfoldable pub answerOf : Card → Call → Answer
 answerOf c a = let s = cardStep (seenOf c) a in record { card = record { words = wordsOf s (c .words) }; outcome = outcomeOf (s .outcome) }
 
 -- the promise of `call`: the answer and out, each in one equation; that the card holds the lines and the parks that the step shows; and that it was lent bytes
-pub record Promised (c : Card) (a : Call) (r : Answer) (o : List ℕ) : Type 0 where
+pub record CallPromise (c : Card) (a : Call) (r : Answer) (o : List ℕ) : Type 0 where
   pub answer-is : r ≡ answerOf c a
   pub out-is : o ≡ outOf (cardStep (seenOf c) a) (a .out)
   pub seen-is : seenOf (r .card) ≡ cardStep (seenOf c) a .card
-  pub bytes : CallBytes a
+  pub borrowed : CallBytes a
 
 -- a call, its answer and out after it
 abbrev pub recorded : Call → Answer → List ℕ → Made
@@ -49,4 +49,4 @@ recorded a r o =
 -- Each call keeps the promise of `call`, whatever it is lent, and nobody else writes the card.
 pub data Ran : Card → List Made → Type 0 where
   none : {c : Card} → Ran c []
-  call : {c : Card} {a : Call} {r : Answer} {o : List ℕ} {xs : List Made} → Promised c a r o → Ran (r .card) xs → Ran c (recorded a r o ∷ xs)
+  call : {c : Card} {a : Call} {r : Answer} {o : List ℕ} {xs : List Made} → CallPromise c a r o → Ran (r .card) xs → Ran c (recorded a r o ∷ xs)

@@ -2,7 +2,7 @@
 // Nothing is asked of the caller: any card, command, key tray, data and buffer get an answer.
 ghost use mathlib.Core.Path.{_≡_};
 ghost use Rattle.card_outcome.specs.Leaves.{callOf};
-ghost use Rattle.card.specs.Ran.{fresh as Ran·fresh, Promised};
+ghost use Rattle.card.specs.Ran.{fresh as Ran·fresh, CallPromise};
 use card_outcome::Outcome;
 use card_sizes::CARD;
 
@@ -33,7 +33,8 @@ pub fn call<'a>(
     data: &[u8],
     out: &mut [u8],
 ) -> Answer
-    ensures { λ r. ⌜ Promised card (callOf (now (command .entry)) (now (tray .entry)) (now («data» .entry)) (now (out .entry))) r (now (out .exit)) ⌝ }
+    ensures { λ r. ⌜ CallPromise card (callOf (now (command .entry)) (now (tray .entry)) (now («data» .entry)) (now (out .entry)))
+        r (now (out .exit)) ⌝ }
 {
     let mut words = card.words;
     let outcome = card_engine::run(&mut words, command, tray, data, out);

@@ -11,7 +11,7 @@ use Rattle.words.specs.Tests.{both}
 use Rattle.command.specs.declared.Cipher.{Cipher}
 use Rattle.command.specs.Decode.{numberOf}
 use Rattle.ciphers.specs.Table.{cipherAt}
-use Rattle.ciphers.proofs.Tests.{both-false}
+use Rattle.words.proofs.Tests.{both-false}
 
 pub zero-fails : (m x : ℕ) → x ≡ 0 → both (leb 1 x) (leb x m) ≡ false
 zero-fails m x h = rw h

@@ -8,7 +8,7 @@ ghost use lib.ListN.{length, take, getD};
 ghost use Rattle.card_sizes.specs.Sizes.{stateWords};
 ghost use Rattle.words.specs.Tests.{both, pick};
 ghost use Rattle.command.specs.Decode.{numberOf};
-ghost use Rattle.ciphers.specs.Table.{cipherAt, areCells, allZero, spare as spareOf};
+ghost use Rattle.ciphers.specs.Table.{cipherAt, areCells, allZero, zerosFrom};
 use command::Cipher;
 
 // Whether all bytes are zero.
@@ -59,7 +59,7 @@ fn cells(w: &[u32]) -> bool
 // Whether the words after the first k are zero.
 fn spare(w: &[u32], k: usize) -> bool
     requires { ⌜ k ≤ length (now w) ⌝ }
-    ensures { λ r. ⌜ r ≡ spareOf k (now (w .entry)) ⌝ }
+    ensures { λ r. ⌜ r ≡ zerosFrom k (now (w .entry)) ⌝ }
 {
     words_zero(&w[k..])
 }
@@ -67,7 +67,7 @@ fn spare(w: &[u32], k: usize) -> bool
 // Whether ZUC admits a state.
 fn zuc_admits(w: &[u32]) -> bool
     requires { ⌜ length (now w) ≡ stateWords ⌝ }
-    ensures { λ r. ⌜ r ≡ both (areCells (take 16 (now (w .entry)))) (spareOf 18 (now (w .entry))) ⌝ }
+    ensures { λ r. ⌜ r ≡ both (areCells (take 16 (now (w .entry)))) (zerosFrom 18 (now (w .entry))) ⌝ }
 {
     let all = cells(w);
     if !all {
@@ -89,7 +89,8 @@ fn is_carry(w: u32) -> bool
 // Whether Rabbit admits a state.
 fn rabbit_admits(w: &[u32]) -> bool
     requires { ⌜ length (now w) ≡ stateWords ⌝ }
-    ensures { λ r. ⌜ r ≡ both (pick (eqb (getD (now (w .entry)) 16 0) 0) true (eqb (getD (now (w .entry)) 16 0) 16777216)) (spareOf 17 (now (w .entry))) ⌝ }
+    ensures { λ r. ⌜ r ≡ both (pick (eqb (getD (now (w .entry)) 16 0) 0) true (eqb (getD (now (w .entry)) 16 0) 16777216))
+        (zerosFrom 17 (now (w .entry))) ⌝ }
 {
     let carry = w[16];
     let fits = is_carry(carry);

@@ -9,7 +9,7 @@ use native.Mathlib.Decide.{decLt}
 use native.Mathlib.Omega.{arith}
 use lib.ListN.{getD}
 use Rattle.words.specs.Tests.{both}
-use Rattle.ciphers.proofs.Tests.{both-true, both-false}
+use Rattle.words.proofs.Tests.{both-true, both-false}
 use Rattle.machine.specs.Machine.{Line, allOk, lineOk, idleLine}
 
 line-fails : (n : ℕ) (ls : List Line) (i : ℕ) → i < n → lineOk (getD ls i idleLine) ≡ false → allOk n ls ≡ false

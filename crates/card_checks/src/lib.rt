@@ -10,14 +10,12 @@ ghost use Rattle.card_layout.specs.Words.{cardIn, Sound};
 use card_admits::admits;
 use card_admits::words_zero;
 use card_sizes::HEAD;
+use card_sizes::LIMIT;
 use card_sizes::LINE;
 use card_sizes::LINES;
 use card_sizes::STATE;
 use command::CipherRead;
 use command::read_cipher;
-
-// Document 01's 2^36.
-pub const LIMIT: u64 = 68_719_476_736;
 
 // Whether an open line with this cipher, this position and these words is well formed.
 pub fn open_with(c: u8, n: u64, w: &[u32]) -> bool

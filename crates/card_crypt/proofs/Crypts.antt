@@ -1,6 +1,6 @@
--- A crypt of a line's words from a place within a unit is one of the line from its position, and an open line has what a crypt asks.
+-- A crypt of a line's words from a place within a unit is one of the line from its position, an open line has what a crypt asks, and a crypt is decided by its rows.
 -- Assumes nothing.
-use mathlib.Core.Path.{_≡_, ap, sym, subst, _∙_}
+use mathlib.Core.Path.{_≡_, ap, ap₂, sym, subst, _∙_}
 use mathlib.Core.Bool.{true, false}
 use mathlib.Core.List.{List, _++_}
 use Prim.Native.Nat.{ℕ, _+_, _/_, _%_, _<_}
@@ -13,10 +13,18 @@ use Rattle.keystream.specs.Stream.{stateAt, byteAt, xorFrom}
 use Rattle.keystream.proofs.Parts.{stateAt-place, xorFrom-place}
 use Rattle.ciphers.specs.Table.{cipherAt, isCipher}
 use Rattle.ciphers.proofs.Sound.{sound}
-use Rattle.ciphers.proofs.Tests.{both-left, both-right}
-use Rattle.card_sizes.specs.Sizes.{stateWords}
+use Rattle.words.proofs.Tests.{both-left, both-right}
+use Rattle.card_sizes.specs.Sizes.{stateWords, cryptLength}
+use Rattle.command.specs.declared.Command.the-variants.{Crypt}
+use Rattle.command.specs.Rows.{unless}
+use Rattle.command.specs.Decode.{lengthOf}
+use Rattle.card_rows.specs.Rows.{cryptRows}
 use Rattle.card_line.proofs.Lines.{Plain}
-use Rattle.machine.specs.Machine.{Line, based, shown, moved, stateOf, unitAt, byteOf, enciphered, limit, openOk}
+use Rattle.machine.specs.Logs.{lineOn}
+use Rattle.card_layout.specs.Words.{cardIn}
+use Rattle.card_outcome.specs.Leaves.{callOf, publicOf}
+use Rattle.card_outcome.proofs.Laws.{view-is}
+use Rattle.machine.specs.Machine.{View, crypt, refuseIf, decided, Line, based, shown, moved, stateOf, unitAt, byteOf, enciphered, limit, openOk}
 
 -- a crypt from a place within a unit is one from the line's position
 pub crypted-line : (l : Line) (u : ℕ) → u ≡ cipherAt (l .cipher) .gen .unit → (text out w' out' : List ℕ) →
@@ -57,3 +65,12 @@ place-within c n u e = subst (λ (x : ℕ). n % x < cipherAt c .gen .unit) (sym 
 pub moved-plain : (l : Line) (k : ℕ) → Plain l → length (shown (moved (based l) k) .words) ≡ stateWords → Plain (shown (moved (based l) k))
 unfolding shown moved based
 moved-plain l k p f = record { mode = p .mode; cipher = p .cipher; full = f }
+
+-- ---- the rows of a crypt, by what is read of its line
+
+pub crypt-decided : (ws : List ℕ) (i n : ℕ) (command tray text out : List ℕ) {m p : ℕ} → m ≡ lineOn (cardIn ws) i .mode → p ≡ lineOn (cardIn ws) i .n →
+    decided (Crypt i n) (publicOf ws) (callOf command tray text out) ≡ unless refuseIf (cryptRows m p n (length text) (length out)) (crypt i n cryptLength)
+unfolding decided refuseIf lengthOf
+crypt-decided ws i n command tray text out hm hp =
+    ap (λ (v : View). unless refuseIf (cryptRows (v .mode) (v .pos) n (length text) (length out)) (crypt i n cryptLength)) (view-is ws i)
+    ∙ ap₂ (λ (m p : ℕ). unless refuseIf (cryptRows m p n (length text) (length out)) (crypt i n cryptLength)) (sym hm) (sym hp)

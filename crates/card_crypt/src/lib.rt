@@ -1,4 +1,4 @@
-// A crypt on a line of a card, on the card's lent words (document 01, "The card").
+// A crypt on a line of a card, on the card's borrowed words (document 01, "The card").
 // The caller must ensure that the card is as a call leaves it, and that the line is one of its lines.
 ghost use mathlib.Core.Path.{_≡_};
 ghost use mathlib.Core.Bool.{true};
@@ -10,12 +10,12 @@ ghost use Rattle.command.specs.declared.Command.the-variants.{Crypt};
 ghost use Rattle.machine.specs.Machine.{limit, openOk};
 ghost use Rattle.card_line.specs.Words.{lineIn};
 ghost use Rattle.card_layout.specs.Words.{Sound};
-ghost use Rattle.card_outcome.specs.Leaves.{callOf, Does};
+ghost use Rattle.card_outcome.specs.Leaves.{callOf, CommandLeaves};
 ghost use Rattle.card_crypt.specs.Crypted.{Crypted};
-use card_checks::LIMIT;
 use card_outcome::Outcome;
 use card_outcome::accepted;
 use card_outcome::refused;
+use card_rows::crypt_code;
 use card_sizes::CRYPT;
 use card_sizes::HEAD;
 use card_sizes::LINE;
@@ -45,25 +45,14 @@ fn encipher(line: &mut [u32], text: &[u8], out: &mut [u8])
 // A crypt of count bytes on line i.
 pub fn run_crypt(card: &mut [u32], i: u8, count: usize, data: &[u8], out: &mut [u8]) -> Outcome
     requires { ⌜ Sound (now card) × (i < lineCount) ⌝ }
-    ensures { λ r. ⌜ ((command tray : List ℕ) → Does (now (card .entry)) (Crypt i count) (callOf command tray (now («data» .entry)) (now (out .entry))) r (now (card .exit)) (now (out .exit))) ⌝ }
+    ensures { λ r. ⌜ ((command tray : List ℕ) → CommandLeaves (now (card .entry)) (Crypt i count)
+        (callOf command tray (now («data» .entry)) (now (out .entry))) r (now (card .exit)) (now (out .exit))) ⌝ }
 {
     let mode = card_layout::mode_at(card, i);
-    if mode != 1 {
-        return refused(6);
-    }
     let n = card_layout::position_at(card, i);
-    let k = count as u64;
-    if k > LIMIT {
-        return refused(13);
-    }
-    if n > LIMIT - k {
-        return refused(13);
-    }
-    if data.len() < count {
-        return refused(11);
-    }
-    if out.len() < count {
-        return refused(12);
+    let code = crypt_code(mode, n, count, data.len(), out.len());
+    if code != 0 {
+        return refused(code);
     }
     let at = LINE * (i as usize);
     let end = at + LINE;

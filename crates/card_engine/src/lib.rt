@@ -1,9 +1,9 @@
-// A call on a card's lent words (document 01, "The card"): a damaged card is told, the command is read, and what it says is decided and performed.
+// A call on a card's borrowed words (document 01, "The card"): a damaged card is told, the command is read, and what it says is decided and performed.
 // The caller must ensure that the card has its words.
 ghost use mathlib.Core.Path.{_≡_};
 ghost use lib.ListN.{length};
 ghost use Rattle.card_sizes.specs.Sizes.{cardSize};
-ghost use Rattle.card_outcome.specs.Leaves.{callOf, Called};
+ghost use Rattle.card_outcome.specs.Leaves.{callOf, CallLeaves};
 use card_checks::card_ok;
 use card_outcome::Outcome;
 use card_outcome::refused;
@@ -21,7 +21,9 @@ pub fn run<'a>(
     out: &mut [u8],
 ) -> Outcome
     requires { ⌜ length (now card) ≡ cardSize ⌝ }
-    ensures { λ r. ⌜ Called (now (card .entry)) (callOf (now (command .entry)) (now (tray .entry)) (now («data» .entry)) (now (out .entry))) r (now (card .exit)) (now (out .exit)) ⌝ }
+    ensures { λ r. ⌜ CallLeaves (now (card .entry))
+        (callOf (now (command .entry)) (now (tray .entry)) (now («data» .entry)) (now (out .entry))) r (now (card .exit))
+        (now (out .exit)) ⌝ }
 {
     let ok = card_ok(card);
     if !ok {

@@ -1,5 +1,5 @@
-// A line's image, written to the start of a buffer from the line's words (document 01, "The card"): the cipher's byte, n in eight bytes, the park's number in four, and the words of the state with the
-// zeros after it.
+// A line's image, written to the start of a buffer from the line's words (document 01, "The card"): the cipher's byte, n in eight bytes,
+// the park's number in four, and the words of the state with the zeros after it.
 // The caller must ensure that the buffer has an image's length, and that the words are a line's.
 ghost use mathlib.Core.Path.{_≡_};
 ghost use mathlib.Core.List.{_++_};
@@ -45,7 +45,8 @@ fn put_words(w: &[u32], out: &mut [u8])
 pub fn put(line: &[u32], number: u32, out: &mut [u8])
     requires { ⌜ LineHeld (now line) ⌝ }
     requires { ⌜ imageLength ≤ length (now out) ⌝ }
-    ensures { λ _. ⌜ (length (imageOf number (lineIn (now (line .entry)))) ≡ imageLength) × (now (out .exit) ≡ imageOf number (lineIn (now (line .entry))) ++ drop imageLength (now (out .entry))) ⌝ }
+    ensures { λ _. ⌜ (length (imageOf number (lineIn (now (line .entry)))) ≡ imageLength) ×
+        (now (out .exit) ≡ imageOf number (lineIn (now (line .entry))) ++ drop imageLength (now (out .entry))) ⌝ }
 {
     let cipher = card_line::cipher_of(line);
     out[0] = cipher;

@@ -11,7 +11,7 @@ use lib.Seq.{length-take-le}
 use Rattle.words.specs.Tests.{both, pick}
 use Rattle.card_sizes.specs.Sizes.{keyLength}
 use Rattle.ciphers.specs.Table.{cipherAt, zuc, rabbit, snow128, snow256, kcipher2, mugi, allZero}
-use Rattle.ciphers.proofs.Tests.{both-true, both-false}
+use Rattle.words.proofs.Tests.{both-true, both-false}
 use Rattle.command.specs.declared.Cipher.{Cipher}
 use Rattle.command.specs.declared.Cipher.the-variants.{Zuc, Rabbit, Snow128, Snow256, Kcipher2, Mugi}
 use Rattle.command.specs.Decode.{numberOf}

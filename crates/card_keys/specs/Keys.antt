@@ -1,13 +1,18 @@
 -- What refuses a key and an IV, which key is handed out, and what an open with them comes to.
 -- Assumes nothing.
 use mathlib.Core.Path.{_≡_}
-use mathlib.Core.Bool.{false}
+use mathlib.Core.Bool.{Bool, false}
 use mathlib.Core.List.{List, []}
 use Prim.Native.Nat.{ℕ}
-use lib.ListN.{take}
+use lib.ListN.{take, drop}
 use Rattle.words.specs.Tests.{pick}
+use Rattle.card_sizes.specs.Sizes.{keyLength}
 use Rattle.ciphers.specs.Table.{cipherAt, allZero}
 use Rattle.machine.specs.Machine.{Effect, refuseIf, put, opened, spareUsed, blankKey}
+
+-- the bytes of a key: those from byte at on of the command that brings its own, or of the tray
+abbrev pub keyBytes : Bool → ℕ → (tray command : List ℕ) → List ℕ
+keyBytes own at tray command = take keyLength (drop at (pick own command tray))
 
 -- 7 where a byte beyond the cipher's lengths is not 0, else 16 where the key is all zero in the cipher's own length, else 0
 unfoldable pub keyCode : ℕ → (key iv : List ℕ) → ℕ

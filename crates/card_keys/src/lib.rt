@@ -6,7 +6,7 @@ ghost use lib.ListN.{length, take, drop};
 ghost use Rattle.words.specs.Tests.{pick};
 ghost use Rattle.card_sizes.specs.Sizes.{keyLength, ivLength};
 ghost use Rattle.command.specs.Decode.{numberOf};
-ghost use Rattle.card_keys.specs.Keys.{keyCode, Handed};
+ghost use Rattle.card_keys.specs.Keys.{keyBytes, keyCode, Handed};
 use card_admits::all_zero;
 use card_sizes::KEY;
 use ciphers::iv_of;
@@ -16,7 +16,7 @@ use command::Cipher;
 // The bytes of a key: a part of the command, or a part of the tray.
 pub fn key_field<'a>(tray: &'a [u8], command: &'a [u8], own: bool, at: usize) -> &'a [u8]
     requires { ⌜ at + keyLength ≤ length (pick own (now command) (now tray)) ⌝ }
-    ensures { λ r. ⌜ now r ≡ take keyLength (drop at (pick own (now (command .entry)) (now (tray .entry)))) ⌝ }
+    ensures { λ r. ⌜ now r ≡ keyBytes own at (now (tray .entry)) (now (command .entry)) ⌝ }
 {
     if own {
         let e = at + KEY;
@@ -61,7 +61,8 @@ pub fn key_part<'a>(
 ) -> &'a [u8]
     requires { ⌜ at + keyLength ≤ length (pick own (now command) (now tray)) ⌝ }
     requires { ⌜ length (now iv) ≡ ivLength ⌝ }
-    ensures { λ r. ⌜ Handed (numberOf cipher) (take keyLength (drop at (pick own (now (command .entry)) (now (tray .entry))))) (now (iv .entry)) (now r) ⌝ }
+    ensures { λ r. ⌜ Handed (numberOf cipher) (keyBytes own at (now (tray .entry)) (now (command .entry)))
+        (now (iv .entry)) (now r) ⌝ }
 {
     let field = key_field(tray, command, own, at);
     let code = key_code(cipher, field, iv);

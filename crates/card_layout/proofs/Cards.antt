@@ -51,9 +51,6 @@ card-lines ws = lines-count lineCount ws
 -- ---- the part that is a line's
 
 module _ (ws : List ℕ) (i : ℕ) (h : i < lineCount) (n : length ws ≡ cardSize) where
-  pub line-end : lineSize * i + lineSize ≤ length ws
-  line-end = omega arith
-
   part-size : lineSize * i + lineSize - lineSize * i ≡ lineSize
   part-size = omega arith
 

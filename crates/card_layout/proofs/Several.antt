@@ -8,15 +8,14 @@ use native.Mathlib.Decide.{decLt}
 use native.Mathlib.Omega.{arith}
 use lib.ListN.{length, getD, take, drop, set, length-append, length-drop}
 use lib.Seq.{length-take-le, drop-at, take-at, getD-set-same, getD-set-other}
-use Rattle.ciphers.proofs.Tests.{both-left, both-right, both-true}
+use Rattle.words.proofs.Tests.{both-left, both-right, both-true}
 use Rattle.card_sizes.specs.Sizes.{lineSize, lineCount}
 use Rattle.machine.specs.Machine.{Line, idleLine, lineOk, allOk, cardOk}
 use Rattle.machine.specs.Parks.{parksOk}
-use Rattle.machine.specs.Logs.{lineOn}
 use Rattle.card_line.specs.Words.{lineIn, lineWords}
 use Rattle.card_layout.specs.Words.{wordsAt, cardIn, putLine, Sound}
 use Rattle.card_line.proofs.Lines.{Plain, line-read, line-length}
-use Rattle.card_layout.proofs.Cards.{further, put-next, put-seen, line-here, card-lines}
+use Rattle.card_layout.proofs.Cards.{further, put-next, put-seen, card-lines}
 
 -- ---- the words of the lines after one was put
 
@@ -99,11 +98,3 @@ module _ (ws : List ℕ) (s : Sound ws) (i : ℕ) (q : i < lineCount) (l : Line)
           let z : j ≡ i = omega arith in
           let e : wordsAt (putLine ws i l) j ≡ lineWords l = ap (wordsAt (putLine ws i l)) z ∙ own-words i ws l full within in
           ap (λ (x : List ℕ). lineWords (lineIn x)) e ∙ ap lineWords (line-read l p) ∙ sym e
-
-  -- The other lines are as they were.
-  pub other-line : (j : ℕ) → j < lineCount → (i ≡ j → ⊥) → lineOn (cardIn (putLine ws i l)) j ≡ lineOn (cardIn ws) j
-  other-line j h f = line-here (putLine ws i l) j h ∙ ap lineIn (other-words i j ws l f full within) ∙ sym (line-here ws j h)
-
-  -- And the line is the one that was put.
-  pub same-line : lineOn (cardIn (putLine ws i l)) i ≡ l
-  same-line = line-here (putLine ws i l) i q ∙ ap lineIn (own-words i ws l full within) ∙ line-read l p

@@ -19,7 +19,7 @@ use Rattle.buffer.proofs.Fronts.{Front, front-more}
 use Rattle.card_sizes.specs.Sizes.{stateWords, headWords, lineSize}
 use Rattle.ciphers.specs.Table.{allZero, isCipher}
 use Rattle.ciphers.proofs.States.{zeros-of}
-use Rattle.ciphers.proofs.Tests.{both-left, both-right, both-true}
+use Rattle.words.proofs.Tests.{both-left, both-right, both-true}
 use Rattle.machine.specs.Machine.{Line, lineOk, idleOk, openOk, idleLine}
 use Rattle.card_line.specs.Words.{lineIn, lineWords}
 

@@ -10,7 +10,7 @@ ghost use Rattle.card_line.specs.Words.{lineIn, lineWords};
 use card_sizes::HEAD;
 use card_sizes::LINE;
 
-// A word as a byte; one that is none counts as 255, which no mode and no cipher has.
+// A word as a byte; one above it counts as 255, which no mode and no cipher has.
 fn byte(w: u32) -> u8
     ensures { λ r. ⌜ r ≡ min w 255 ⌝ }
 {

@@ -12,7 +12,7 @@ use borrow.Author.Tests.{eqb-true, ne-eqb, le-leb}
 use Rattle.words.specs.Tests.{both}
 use Rattle.keystream.proofs.Parts.{tail-part}
 use Rattle.ciphers.specs.Table.{allOf, allZero, isZero}
-use Rattle.ciphers.proofs.Tests.{both-left, both-right, both-true}
+use Rattle.words.proofs.Tests.{both-left, both-right, both-true}
 use Rattle.card_admits.proofs.Walks.{Left, left-here, left-next}
 use Rattle.machine.specs.Parks.{either, among, Parks, onceEach, parksOk}
 

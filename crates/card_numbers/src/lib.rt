@@ -62,7 +62,8 @@ pub fn none_above(held: &[u32], count: u32) -> bool
 // Whether the number of line i is 0 or no later line's.
 fn stands_once(held: &[u32], i: usize) -> bool
     requires { ⌜ i < length (now held) ⌝ }
-    ensures { λ r. ⌜ r ≡ either (eqb (getD (now (held .entry)) i 0) 0) (not (among (drop (suc i) (now (held .entry))) (getD (now (held .entry)) i 0))) ⌝ }
+    ensures { λ r. ⌜ r ≡ either (eqb (getD (now (held .entry)) i 0) 0)
+        (not (among (drop (suc i) (now (held .entry))) (getD (now (held .entry)) i 0))) ⌝ }
 {
     let x = held[i];
     if x == 0 {

@@ -1,38 +1,41 @@
 -- What the rows of an open ask of the tray and of the key, and the line that an open puts.
 -- Assumes nothing.
 use mathlib.Core.Path.{_≡_, refl, ap, sym, _∙_}
-use mathlib.Core.Bool.{Bool, true, false, not}
+use mathlib.Core.Bool.{Bool, true, false}
 use mathlib.Core.List.{List}
-use Prim.Native.Nat.{ℕ, _%_, _<_, _≤_}
+use Prim.Native.Nat.{ℕ, _*_, _<_}
 use native.Mathlib.Omega.{arith}
-use lib.Dec.{leb, eqb, lit≤}
-use lib.ListN.{length}
-use borrow.Author.Tests.{lt-leb, le-leb, eq-eqb, ne-eqb}
-use Rattle.words.specs.Tests.{both}
-use Rattle.card_sizes.specs.Sizes.{stateWords}
+use lib.Dec.{lit≤}
+use lib.ListN.{length, take, drop}
+use Rattle.card_sizes.specs.Sizes.{stateWords, keyLength, ivLength, trayIv, trayLength}
+use Rattle.command.specs.declared.Command.the-variants.{Tray}
+use Rattle.command.specs.Rows.{unless}
 use Rattle.ciphers.specs.Table.{cipherAt}
-use Rattle.ciphers.proofs.Tests.{both-true, both-false}
 use Rattle.command.specs.declared.Cipher.{Cipher}
 use Rattle.command.specs.declared.Cipher.the-variants.{Zuc, Rabbit, Snow128, Snow256, Kcipher2, Mugi}
-use Rattle.command.specs.Decode.{numberOf}
-use Rattle.machine.specs.Machine.{Line, shown, trayOk, opened, spareUsed, blankKey}
+use Rattle.command.specs.Decode.{numberOf, lengthOf}
+use Rattle.card_rows.specs.Rows.{trayRows}
+use Rattle.machine.specs.Machine.{View, Line, shown, opened, spareUsed, blankKey, refuseIf, decided}
+use Rattle.machine.specs.Logs.{lineOn}
+use Rattle.card_layout.specs.Words.{cardIn}
 use Rattle.machine.proofs.OneStream.{opened-shown}
 use Rattle.card_line.proofs.Lines.{Plain}
-use Rattle.card_keys.specs.Keys.{keyCode, openWith}
+use Rattle.card_keys.specs.Keys.{keyBytes, keyCode, openWith}
 use Rattle.card_keys.proofs.Spare.{code-used, code-blank, code-none}
 use Rattle.card_outcome.specs.declared.Outcome.{Outcome}
 use Rattle.card_outcome.specs.Outcomes.{refusal}
-use Rattle.card_outcome.specs.Leaves.{Gives}
-use Rattle.card_outcome.proofs.Laws.{given-true, given-false, given-refusal}
+use Rattle.card_outcome.specs.Leaves.{callOf, publicOf, EffectLeaves}
+use Rattle.card_outcome.proofs.Laws.{view-is, given-true, given-false, given-refusal}
 
-pub tray-uneven : (n : ℕ) → (n % 32 ≡ 0 → ⊥) → not (trayOk n) ≡ true
-tray-uneven n h = ap (λ (b : Bool). not (both b (leb n 8192))) (ne-eqb (n % 32) 0 h)
-
-pub tray-long : (n : ℕ) → 8192 < n → not (trayOk n) ≡ true
-tray-long n h = ap not (both-false (eqb (n % 32) 0) (leb n 8192) (lt-leb n 8192 h))
-
-pub tray-good : (n : ℕ) → n % 32 ≡ 0 → n ≤ 8192 → not (trayOk n) ≡ false
-tray-good n e h = ap not (both-true (eq-eqb (n % 32) 0 e) (le-leb n 8192 h))
+-- the rows of an open with a key of the tray, by what is read of its line
+pub tray-decided : (ws : List ℕ) (i : ℕ) (c : Cipher) (k : ℕ) (command tray text out : List ℕ) {m : ℕ} → m ≡ lineOn (cardIn ws) i .mode →
+    decided (Tray i c k) (publicOf ws) (callOf command tray text out)
+    ≡ unless refuseIf (trayRows m (length tray) k) (openWith i trayLength (numberOf c) (keyBytes false (keyLength * k) tray command) (take ivLength (drop trayIv command)))
+unfolding decided refuseIf lengthOf
+tray-decided ws i c k command tray text out h =
+    let e = openWith i trayLength (numberOf c) (keyBytes false (keyLength * k) tray command) (take ivLength (drop trayIv command)) in
+    ap (λ (v : View). unless refuseIf (trayRows (v .mode) (length tray) k) e) (view-is ws i)
+    ∙ ap (λ (m : ℕ). unless refuseIf (trayRows m (length tray) k) e) (sym h)
 
 -- the line that an open puts
 pub opened-is : (c : ℕ) (key iv w : List ℕ) → w ≡ cipherAt c .init key iv → _≡_ {A = Line} (record { mode = 1; cipher = c; n = 0; words = w }) (shown (opened c key iv))
@@ -52,13 +55,13 @@ opened-plain c w e = record { mode = omega arith; cipher = number-small c; full 
 -- an open that its key's number refuses
 module _ (ws text out : List ℕ) where
   pub given-code : (i size c : ℕ) (key iv : List ℕ) {k : ℕ} {r : Outcome} → k ≡ keyCode c key iv → (keyCode c key iv ≡ 0 → ⊥) → r ≡ refusal k →
-      Gives ws text out (openWith i size c key iv) r ws out
+      EffectLeaves ws text out (openWith i size c key iv) r ws out
   given-code i size c key iv {k} {r} e f g = by (spareUsed c key iv) (blankKey c key) refl refl
     where
       says : {n : ℕ} → n ≡ keyCode c key iv → r ≡ refusal n
       says h = g ∙ ap refusal (e ∙ sym h)
 
-      by : (b d : Bool) → spareUsed c key iv ≡ b → blankKey c key ≡ d → Gives ws text out (openWith i size c key iv) r ws out
+      by : (b d : Bool) → spareUsed c key iv ≡ b → blankKey c key ≡ d → EffectLeaves ws text out (openWith i size c key iv) r ws out
       by true d h l = given-true ws text out _ 7 _ h (given-refusal ws text out 7 (λ z. omega arith) (says (code-used c key iv h)))
       by false true h l =
           given-false ws text out _ 7 _ h

@@ -9,15 +9,15 @@ ghost use Rattle.card_sizes.specs.Sizes.{lineCount, keyLength, ivLength, trayLe
 ghost use Rattle.command.specs.Decode.{numberOf};
 ghost use Rattle.command.specs.declared.Command.the-variants.{Tray, Own};
 ghost use Rattle.card_layout.specs.Words.{Sound};
-ghost use Rattle.card_keys.specs.Keys.{openWith};
-ghost use Rattle.card_outcome.specs.Leaves.{callOf, Gives, Does};
+ghost use Rattle.card_keys.specs.Keys.{keyBytes, openWith};
+ghost use Rattle.card_outcome.specs.Leaves.{callOf, EffectLeaves, CommandLeaves};
 use card_keys::key_code;
 use card_keys::key_field;
 use card_keys::key_part;
 use card_outcome::Outcome;
 use card_outcome::accepted;
 use card_outcome::refused;
-use card_sizes::FULL_TRAY;
+use card_rows::tray_code;
 use card_sizes::KEY;
 use card_sizes::OWN;
 use card_sizes::OWN_IV;
@@ -43,7 +43,9 @@ fn open_line<'a>(
     requires { ⌜ Sound (now card) × (i < lineCount) ⌝ }
     requires { ⌜ at + keyLength ≤ length (pick own (now command) (now tray)) ⌝ }
     requires { ⌜ length (now iv) ≡ ivLength ⌝ }
-    ensures { λ r. ⌜ ((text out : List ℕ) → Gives (now (card .entry)) text out (openWith i used (numberOf cipher) (take keyLength (drop at (pick own (now (command .entry)) (now (tray .entry))))) (now (iv .entry))) r (now (card .exit)) out) ⌝ }
+    ensures { λ r. ⌜ ((text out : List ℕ) → EffectLeaves (now (card .entry)) text out
+        (openWith i used (numberOf cipher) (keyBytes own at (now (tray .entry)) (now (command .entry))) (now (iv .entry)))
+        r (now (card .exit)) out) ⌝ }
 {
     let key = key_part(tray, command, own, at, cipher, iv);
     if key.len() == 0 {
@@ -69,23 +71,15 @@ pub fn run_tray<'a>(
 ) -> Outcome
     requires { ⌜ Sound (now card) × (i < lineCount) ⌝ }
     requires { ⌜ trayLength ≤ length (now command) ⌝ }
-    ensures { λ r. ⌜ ((text out : List ℕ) → Does (now (card .entry)) (Tray i cipher number) (callOf (now (command .entry)) (now (tray .entry)) text out) r (now (card .exit)) out) ⌝ }
+    ensures { λ r. ⌜ ((text out : List ℕ) → CommandLeaves (now (card .entry)) (Tray i cipher number)
+        (callOf (now (command .entry)) (now (tray .entry)) text out) r (now (card .exit)) out) ⌝ }
 {
     let mode = card_layout::mode_at(card, i);
-    if mode != 0 {
-        return refused(5);
-    }
-    if tray.len() % KEY != 0 {
-        return refused(9);
-    }
-    if tray.len() > FULL_TRAY {
-        return refused(9);
+    let code = tray_code(mode, tray.len(), number);
+    if code != 0 {
+        return refused(code);
     }
     let at = KEY * (number as usize);
-    let end = at + KEY;
-    if tray.len() < end {
-        return refused(10);
-    }
     let iv = &command[TRAY_IV..TRAY];
     open_line(card, i, cipher, tray, command, false, at, iv, TRAY)
 }
@@ -100,7 +94,8 @@ pub fn run_own<'a>(
 ) -> Outcome
     requires { ⌜ Sound (now card) × (i < lineCount) ⌝ }
     requires { ⌜ ownLength ≤ length (now command) ⌝ }
-    ensures { λ r. ⌜ ((text out : List ℕ) → Does (now (card .entry)) (Own i cipher) (callOf (now (command .entry)) (now (tray .entry)) text out) r (now (card .exit)) out) ⌝ }
+    ensures { λ r. ⌜ ((text out : List ℕ) → CommandLeaves (now (card .entry)) (Own i cipher)
+        (callOf (now (command .entry)) (now (tray .entry)) text out) r (now (card .exit)) out) ⌝ }
 {
     let mode = card_layout::mode_at(card, i);
     if mode != 0 {

@@ -11,11 +11,11 @@ use Rattle.machine.specs.Machine.{Call, Shown, back, public, cardOk, ofDecoded,
 use Rattle.card_layout.specs.Words.{cardIn, Sound}
 use Rattle.card_outcome.specs.declared.Outcome.{Outcome}
 use Rattle.card_outcome.specs.Outcomes.{refusal, outcomeOf}
-use Rattle.card_outcome.specs.Leaves.{outOf, wordsOf, publicOf, Leaves, Gives, Called}
+use Rattle.card_outcome.specs.Leaves.{outOf, wordsOf, publicOf, Leaves, EffectLeaves, CallLeaves}
 
 module _ (ws : List ℕ) (a : Call) where
   pub answers : Sound ws → (d : Decoded) → decodeOf (a .command) ≡ d → {r : Outcome} {ws' o : List ℕ} →
-      Gives ws (a .text) (a .out) (ofDecoded d (publicOf ws) a) r ws' o → Called ws a r ws' o
+      EffectLeaves ws (a .text) (a .out) (ofDecoded d (publicOf ws) a) r ws' o → CallLeaves ws a r ws' o
   unfolding cardStep step decide publicOf
   answers h d e {r} {ws'} {o} g =
       let E : cardStep (cardIn ws) a ≡ shows (perform (back (cardIn ws)) (a .text) (ofDecoded d (public (back (cardIn ws))) a)) =
@@ -23,7 +23,7 @@ module _ (ws : List ℕ) (a : Call) where
       ∙ ap (λ (x : Decoded). shows (perform (back (cardIn ws)) (a .text) (ofDecoded x (public (back (cardIn ws))) a))) e in
       subst (λ (x : Shown). Leaves x ws (a .out) r ws' o) (sym E) g
 
-  pub damaged : cardOk (cardIn ws) ≡ false → {r : Outcome} → r ≡ refusal 255 → Called ws a r ws (a .out)
+  pub damaged : cardOk (cardIn ws) ≡ false → {r : Outcome} → r ≡ refusal 255 → CallLeaves ws a r ws (a .out)
   unfolding cardStep outcomeOf outOf wordsOf
   damaged h {r} e =
       let E : cardStep (cardIn ws) a ≡ record { outcome = answer 255 0 0 []; card = cardIn ws } =

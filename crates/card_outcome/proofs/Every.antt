@@ -18,7 +18,7 @@ use Rattle.card_layout.specs.Words.{cardIn, cardWords}
 use Rattle.card_layout.proofs.Cards.{fresh-words}
 use Rattle.card_layout.proofs.Back.{seen-read, seen-length}
 use Rattle.card_outcome.specs.Outcomes.{outcomeOf}
-use Rattle.card_outcome.specs.Leaves.{outOf, wordsOf, Called}
+use Rattle.card_outcome.specs.Leaves.{outOf, wordsOf, CallLeaves}
 
 -- words that hold what is seen of a machine that a list of calls leads to
 pub record Stored (m : Machine) (ws : List ℕ) : Type 0 where
@@ -73,7 +73,7 @@ module _ {m : Machine} {ws : List ℕ} (t : Stored m ws) (a : Call) (b : CallByt
       by true = ap (λ (s : Shown). length (cardWords (s .card))) same ∙ seen-length (step m a .machine) (step-good m (t .good) a b .lines) eight-next (step-good m (t .good) a b .long)
       by false = t .size
 
-  pub every-call : Called ws a (outcomeOf (after .outcome)) (wordsOf after ws) (outOf after (a .out))
+  pub every-call : CallLeaves ws a (outcomeOf (after .outcome)) (wordsOf after ws) (outOf after (a .out))
   every-call = record { outcome-is = refl; card-is = card-next; words-are = refl; out-is = refl }
 
   pub stored-next : Stored (step m a .machine) (wordsOf after ws)

@@ -17,21 +17,21 @@ use Rattle.machine.proofs.Trunk.{taken-up}
 use Rattle.card_layout.specs.Words.{cardIn}
 use Rattle.card_outcome.specs.declared.Outcome.{Outcome}
 use Rattle.card_outcome.specs.Outcomes.{outcomeOf}
-use Rattle.card_outcome.specs.Leaves.{outOf, Called, Crypts}
+use Rattle.card_outcome.specs.Leaves.{outOf, CallLeaves, Crypts}
 
-module _ (ws : List ℕ) (a : Call) {r : Outcome} {ws' o : List ℕ} (h : Called ws a r ws' o) where
+module _ (ws : List ℕ) (a : Call) {r : Outcome} {ws' o : List ℕ} (h : CallLeaves ws a r ws' o) where
   framed : {i n : ℕ} → Crypts a r i n → Frame (cardIn ws) a i n
   unfolding outcomeOf
   framed k = record { read = k .read; accepted = sym (ap (λ (x : Outcome). x .code) (h .outcome-is)) ∙ k .accepted }
 
   -- the bytes that are counted as written
-  written-is : take (r .written) o ≡ cardStep (cardIn ws) a .outcome .written
+  written-is : take (r .written) o ≡ cardStep (cardIn ws) a .outcome .output
   unfolding outcomeOf outOf
   written-is =
-      let w = cardStep (cardIn ws) a .outcome .written in
+      let w = cardStep (cardIn ws) a .outcome .output in
       ap (take (r .written)) (h .out-is) ∙ take-at w (drop (length w) (a .out)) (r .written) (sym (ap (λ (x : Outcome). x .written) (h .outcome-is)))
 
-module _ (ws vs : List ℕ) (a b : Call) {r q : Outcome} {ws' vs' o p : List ℕ} (near : Called ws a r ws' o) (far : Called vs b q vs' p) {i j n : ℕ} (c : Crypts a r i n) (d : Crypts b q j n) where
+module _ (ws vs : List ℕ) (a b : Call) {r q : Outcome} {ws' vs' o p : List ℕ} (near : CallLeaves ws a r ws' o) (far : CallLeaves vs b q vs' p) {i j n : ℕ} (c : Crypts a r i n) (d : Crypts b q j n) where
   -- The second crypt, of what the first wrote, writes the first's data.
   pub calls-back : lineOn (cardIn vs) j ≡ lineOn (cardIn ws) i → take n (b .text) ≡ take (r .written) o → take (q .written) p ≡ take n (a .text)
   calls-back e t = written-is vs b far ∙ frames-back (cardIn ws) (cardIn vs) a b i j n (framed ws a near c) (framed vs b far d) e (t ∙ written-is ws a near)

@@ -14,8 +14,10 @@ use lib.Seq.{length-take-le}
 use borrow.Author.Tests.{lt-ltb, le-ltb, ne-eqb}
 use Rattle.words.specs.Tests.{both, pick}
 use Rattle.keystream.proofs.Laws.{xorFrom-length}
-use Rattle.ciphers.proofs.Tests.{both-left, both-right}
+use Rattle.words.proofs.Tests.{both-left, both-right}
 use Rattle.card_sizes.specs.Sizes.{lineCount, imageLength}
+use Rattle.command.specs.Rows.{Row, unless, codeOf}
+use Rattle.command.proofs.Rows.{AllPassed, code-yes, code-no}
 use Rattle.machine.specs.Machine.{Line, MLine, View, Seen, noView, Effect, refuse, put, crypt, park, resume, refuseIf, idle, idleLine, based, shown, moved, byteOf, enciphered, viewOf, viewAt, isIdle, isOpen, limit, lineOk, openOk, idleOk, allOk, imageOf, back, seen, withLine, withLineSeen, withParksSeen}
 use Rattle.machine.specs.Parks.{Parks, lastPark, noMore, numberNow, parked, holds, taken, parksOk}
 use Rattle.machine.specs.Logs.{lineOn}
@@ -27,7 +29,7 @@ use Rattle.card_layout.proofs.Cards.{line-here, card-lines, put-seen, put-words
 use Rattle.card_layout.proofs.Several.{put-sound}
 use Rattle.card_outcome.specs.declared.Outcome.{Outcome}
 use Rattle.card_outcome.specs.Outcomes.{refusal, acceptance, outcomeOf}
-use Rattle.card_outcome.specs.Leaves.{outOf, wordsOf, publicOf, Gives}
+use Rattle.card_outcome.specs.Leaves.{outOf, wordsOf, publicOf, EffectLeaves}
 
 -- ---- the lines of a card that is as a call leaves it
 
@@ -57,7 +59,7 @@ open-ok-of l a m = sym (ap (λ (x : ℕ). pick (eqb x 0) (idleOk l) (both (eqb x
 -- ---- what the rows ask of the line that a command names
 
 module _ (ws : List ℕ) (i : ℕ) where
-  view-is : viewAt (publicOf ws) i ≡ record { mode = lineOn (cardIn ws) i .mode; cipher = lineOn (cardIn ws) i .cipher; pos = lineOn (cardIn ws) i .n }
+  pub view-is : viewAt (publicOf ws) i ≡ record { mode = lineOn (cardIn ws) i .mode; cipher = lineOn (cardIn ws) i .cipher; pos = lineOn (cardIn ws) i .n }
   unfolding publicOf viewOf based
   view-is = go (cardIn ws .lines) i
     where
@@ -96,16 +98,16 @@ put-parks ws i l q s p = ap (λ (c : Seen). c .parks) (put-seen ws i l q (s .siz
 -- ---- what an effect gives
 
 module _ (ws text out : List ℕ) where
-  pub given-true : (b : Bool) (k : ℕ) (e : Effect) {r : Outcome} {ws' o : List ℕ} → b ≡ true → Gives ws text out (refuse k) r ws' o → Gives ws text out (refuseIf b k e) r ws' o
+  pub given-true : (b : Bool) (k : ℕ) (e : Effect) {r : Outcome} {ws' o : List ℕ} → b ≡ true → EffectLeaves ws text out (refuse k) r ws' o → EffectLeaves ws text out (refuseIf b k e) r ws' o
   unfolding refuseIf
   given-true b k e h g = rw h g
 
-  pub given-false : (b : Bool) (k : ℕ) (e : Effect) {r : Outcome} {ws' o : List ℕ} → b ≡ false → Gives ws text out e r ws' o → Gives ws text out (refuseIf b k e) r ws' o
+  pub given-false : (b : Bool) (k : ℕ) (e : Effect) {r : Outcome} {ws' o : List ℕ} → b ≡ false → EffectLeaves ws text out e r ws' o → EffectLeaves ws text out (refuseIf b k e) r ws' o
   unfolding refuseIf
   given-false b k e h g = rw h g
 
   -- a refusal leaves the words and out
-  pub given-refusal : (k : ℕ) → (k ≡ 0 → ⊥) → {r : Outcome} → r ≡ refusal k → Gives ws text out (refuse k) r ws out
+  pub given-refusal : (k : ℕ) → (k ≡ 0 → ⊥) → {r : Outcome} → r ≡ refusal k → EffectLeaves ws text out (refuse k) r ws out
   unfolding outcomeOf outOf wordsOf
   given-refusal k f e =
       record {
@@ -114,6 +116,24 @@ module _ (ws text out : List ℕ) where
         words-are = ap (λ (b : Bool). pick b (cardWords (seen (back (cardIn ws)))) ws) (sym (ne-eqb k 0 f));
         out-is = refl;
       }
+
+  -- rows that refuse, by the number of the first that is given
+  pub given-rows : (rows : List Row) (e : Effect) {k : ℕ} → k ≡ codeOf rows → (k ≡ 0 → ⊥) → {r : Outcome} → r ≡ refusal k → EffectLeaves ws text out (unless refuseIf rows e) r ws out
+  given-rows [] e h f g = absurd (f h)
+  given-rows (x ∷ rows) e {k} h f {r} g = by (x .given) refl (λ y. given-rows rows e y f g)
+    where
+      by : (b : Bool) → x .given ≡ b → (k ≡ codeOf rows → EffectLeaves ws text out (unless refuseIf rows e) r ws out) →
+          EffectLeaves ws text out (refuseIf (x .given) (x .number) (unless refuseIf rows e)) r ws out
+      by true y rest =
+          let n = h ∙ code-yes x rows y in
+          given-true (x .given) (x .number) (unless refuseIf rows e) y (given-refusal (x .number) (λ z. f (n ∙ z)) (g ∙ ap refusal n))
+      by false y rest = given-false (x .given) (x .number) (unless refuseIf rows e) y (rest (h ∙ code-no x rows y))
+
+  -- rows of which none is given
+  pub given-passed : (rows : List Row) (e : Effect) → AllPassed rows → {r : Outcome} {ws' o : List ℕ} → EffectLeaves ws text out e r ws' o →
+      EffectLeaves ws text out (unless refuseIf rows e) r ws' o
+  given-passed [] e p g = g
+  given-passed (x ∷ rows) e p g = given-false (x .given) (x .number) (unless refuseIf rows e) (p .0) (given-passed rows e (p .1) g)
 
   module _ (s : Sound ws) (i : ℕ) (q : i < lineCount) where
     base-is : getD (map based (cardIn ws .lines)) i idle ≡ based (lineOn (cardIn ws) i)
@@ -132,12 +152,12 @@ module _ (ws text out : List ℕ) where
     placed-words m l e h = h ∙ sym (put-words ws i l q s) ∙ ap (λ (x : Line). cardWords (withLineSeen (cardIn ws) i x)) e ∙ ap cardWords (sym (seen-with (cardIn ws) i m))
 
     pub given-put : (size : ℕ) (m : MLine) (l : Line) → l ≡ shown m → Plain l → {ws' : List ℕ} → ws' ≡ putLine ws i l → {r : Outcome} → r ≡ acceptance size 0 0 →
-        Gives ws text out (put i m size) r ws' out
+        EffectLeaves ws text out (put i m size) r ws' out
     unfolding outcomeOf outOf wordsOf
     given-put size m l e p h k = record { outcome-is = k; card-is = placed-seen m l e p h; words-are = placed-words m l e h; out-is = refl }
 
     pub given-crypt : (n size : ℕ) → n ≤ length text → (l : Line) → l ≡ shown (moved (based (lineOn (cardIn ws) i)) n) → Plain l → {ws' : List ℕ} → ws' ≡ putLine ws i l →
-        {o : List ℕ} → o ≡ enciphered (based (lineOn (cardIn ws) i)) (take n text) ++ drop n out → {r : Outcome} → r ≡ acceptance size n n → Gives ws text out (crypt i n size) r ws' o
+        {o : List ℕ} → o ≡ enciphered (based (lineOn (cardIn ws) i)) (take n text) ++ drop n out → {r : Outcome} → r ≡ acceptance size n n → EffectLeaves ws text out (crypt i n size) r ws' o
     unfolding outcomeOf outOf wordsOf enciphered
     given-crypt n size f l e p h g k =
         let m = getD (map based (cardIn ws .lines)) i idle in
@@ -168,7 +188,7 @@ module _ (ws text out : List ℕ) where
 
     pub given-park : (size : ℕ) → length (imageOf (numberNow (cardIn ws .parks)) (lineOn (cardIn ws) i)) ≡ imageLength →
         {ws' : List ℕ} → ws' ≡ putParks (putLine ws i idleLine) (parked (cardIn (putLine ws i idleLine) .parks) i) →
-        {o : List ℕ} → o ≡ imageOf (numberNow (cardIn ws .parks)) (lineOn (cardIn ws) i) ++ drop imageLength out → {r : Outcome} → r ≡ acceptance size 0 imageLength → Gives ws text out (park i size) r ws' o
+        {o : List ℕ} → o ≡ imageOf (numberNow (cardIn ws .parks)) (lineOn (cardIn ws) i) ++ drop imageLength out → {r : Outcome} → r ≡ acceptance size 0 imageLength → EffectLeaves ws text out (park i size) r ws' o
     unfolding outcomeOf outOf wordsOf lineOk idleOk
     given-park size t h g k =
         let m = getD (map based (cardIn ws .lines)) i idle in
@@ -184,7 +204,7 @@ module _ (ws text out : List ℕ) where
 
     pub given-resume : (n size : ℕ) (m : MLine) (l : Line) → l ≡ shown m → Plain l → lineOk l ≡ true →
         {ws' : List ℕ} → ws' ≡ putParks (putLine ws i l) (taken (cardIn (putLine ws i l) .parks) n) → {r : Outcome} → r ≡ acceptance size 0 0 →
-        Gives ws text out (resume i m n size) r ws' out
+        EffectLeaves ws text out (resume i m n size) r ws' out
     unfolding outcomeOf outOf wordsOf
     given-resume n size m l e p ok h k =
         record { outcome-is = k; card-is = both-seen m l e p ok (λ x. taken x n) h; words-are = both-words m l e p ok (λ x. taken x n) h; out-is = refl }

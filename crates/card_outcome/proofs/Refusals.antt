@@ -6,15 +6,15 @@ use mathlib.Core.List.{List, []}
 use Prim.Native.Nat.{ℕ}
 use borrow.Author.Tests.{ne-eqb}
 use Rattle.words.specs.Tests.{pick}
-use Rattle.machine.specs.Machine.{Machine, Seen, Call, Outcome as Machine·Outcome, Effect, refuse, put, crypt, park, resume, answer, perform, decide, public, back, step, cardStep}
+use Rattle.machine.specs.Machine.{Machine, Seen, Call, Reply, Effect, refuse, put, crypt, park, resume, answer, perform, decide, public, back, step, cardStep}
 use Rattle.machine.proofs.Codes.{of-card, code-small}
 use Rattle.card_layout.specs.Words.{cardIn, cardWords}
 use Rattle.card_outcome.specs.declared.Outcome.{Outcome}
 use Rattle.card_outcome.specs.Outcomes.{refusal, outcomeOf, Code, listed, damaged}
-use Rattle.card_outcome.specs.Leaves.{outOf, wordsOf, Called, Untouched}
+use Rattle.card_outcome.specs.Leaves.{outOf, wordsOf, CallLeaves, Untouched}
 
 -- an outcome that is not 0 has three zeros
-abbrev Zeros : Machine·Outcome → Type 0
+abbrev Zeros : Reply → Type 0
 Zeros o = (o .code ≡ 0 → ⊥) → o ≡ answer (o .code) 0 0 []
 
 performed : (m : Machine) (text : List ℕ) (e : Effect) → Zeros (perform m text e .outcome)
@@ -28,7 +28,7 @@ zeros : (c : Seen) (a : Call) → Zeros (cardStep c a .outcome)
 unfolding step
 zeros c a = of-card (λ x. Zeros (x .outcome)) c a (λ f. refl) (performed (back c) (a .text) (decide (public (back c)) a))
 
-module _ (ws : List ℕ) (a : Call) {r : Outcome} {ws' o : List ℕ} (h : Called ws a r ws' o) where
+module _ (ws : List ℕ) (a : Call) {r : Outcome} {ws' o : List ℕ} (h : CallLeaves ws a r ws' o) where
   code-is : r .code ≡ cardStep (cardIn ws) a .outcome .code
   unfolding outcomeOf
   code-is = ap (λ (x : Outcome). x .code) (h .outcome-is)
@@ -43,7 +43,7 @@ module _ (ws : List ℕ) (a : Call) {r : Outcome} {ws' o : List ℕ} (h : Called
       record {
         outcome-is = h .outcome-is ∙ ap outcomeOf z ∙ ap refusal (sym code-is);
         words-are = h .words-are ∙ ap (λ (b : Bool). pick b (cardWords (s .card)) ws) (ne-eqb (s .outcome .code) 0 g);
-        out-is = h .out-is ∙ ap (λ (x : Machine·Outcome). outOf (record { outcome = x; card = s .card }) (a .out)) z;
+        out-is = h .out-is ∙ ap (λ (x : Reply). outOf (record { outcome = x; card = s .card }) (a .out)) z;
       }
 
   -- Every code is 0, one of document 01's numbers, or 255.

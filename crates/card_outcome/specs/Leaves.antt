@@ -21,7 +21,7 @@ callOf c t d o = record { command = c; tray = t; text = d; out = o }
 
 -- out after what is shown: the written bytes, and the rest as it was
 unfoldable pub outOf : Shown → List ℕ → List ℕ
-outOf s out = s .outcome .written ++ drop (length (s .outcome .written)) out
+outOf s out = s .outcome .output ++ drop (length (s .outcome .output)) out
 
 -- the card's words after it: those of the card that is shown where it is accepted, else as they were
 unfoldable pub wordsOf : Shown → List ℕ → List ℕ
@@ -35,20 +35,20 @@ pub record Leaves (s : Shown) (ws out : List ℕ) (r : Outcome) (ws' out' : List
   pub out-is : out' ≡ outOf s out
 
 -- what an effect gives
-abbrev pub Gives : (ws text out : List ℕ) → Effect → Outcome → (ws' out' : List ℕ) → Type 0
-Gives ws text out e = Leaves (shows (perform (back (cardIn ws)) text e)) ws out
+abbrev pub EffectLeaves : (ws text out : List ℕ) → Effect → Outcome → (ws' out' : List ℕ) → Type 0
+EffectLeaves ws text out e = Leaves (shows (perform (back (cardIn ws)) text e)) ws out
 
 -- what a decision goes by
 unfoldable pub publicOf : List ℕ → Public
 publicOf ws = public (back (cardIn ws))
 
 -- what a command that is read gives
-abbrev pub Does : List ℕ → Command → Call → Outcome → (ws' out' : List ℕ) → Type 0
-Does ws k a = Gives ws (a .text) (a .out) (decided k (publicOf ws) a)
+abbrev pub CommandLeaves : List ℕ → Command → Call → Outcome → (ws' out' : List ℕ) → Type 0
+CommandLeaves ws k a = EffectLeaves ws (a .text) (a .out) (decided k (publicOf ws) a)
 
 -- what a call gives
-abbrev pub Called : List ℕ → Call → Outcome → (ws' out' : List ℕ) → Type 0
-Called ws a = Leaves (cardStep (cardIn ws) a) ws (a .out)
+abbrev pub CallLeaves : List ℕ → Call → Outcome → (ws' out' : List ℕ) → Type 0
+CallLeaves ws a = Leaves (cardStep (cardIn ws) a) ws (a .out)
 
 -- ---- what is said of calls
 

@@ -2,7 +2,7 @@
 -- Assumes nothing.
 use Prim.Native.Nat.{ℕ, _≤_}
 use lib.ListN.{length}
-use Rattle.machine.specs.Machine.{lastNumber, Outcome as Machine·Outcome}
+use Rattle.machine.specs.Machine.{lastNumber, Reply}
 use Rattle.card_outcome.specs.declared.Outcome.{Outcome}
 
 -- a refusal: three zeros
@@ -14,8 +14,8 @@ abbrev pub acceptance : ℕ → ℕ → ℕ → Outcome
 acceptance c d w = record { code = 0; «used_command» = c; «used_data» = d; written = w }
 
 -- the machine's outcome, its written bytes counted
-unfoldable pub outcomeOf : Machine·Outcome → Outcome
-outcomeOf o = record { code = o .code; «used_command» = o .used-command; «used_data» = o .used-data; written = length (o .written) }
+unfoldable pub outcomeOf : Reply → Outcome
+outcomeOf o = record { code = o .code; «used_command» = o .used-command; «used_data» = o .used-data; written = length (o .output) }
 
 -- the codes: 0 and document 01's numbers, and 255 for a damaged card
 pub data Code : ℕ → Type 0 where

@@ -8,7 +8,7 @@ use native.Mathlib.Omega.{arith}
 use lib.Dec.{leb}
 use borrow.Author.Tests.{leb-true}
 use Rattle.ciphers.specs.Table.{isCipher}
-use Rattle.ciphers.proofs.Tests.{both-left, both-right}
+use Rattle.words.proofs.Tests.{both-left, both-right}
 use Rattle.machine.specs.Machine.{Line, imageLine, openOk}
 use Rattle.card_line.proofs.Lines.{Plain}
 

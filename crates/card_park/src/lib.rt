@@ -1,4 +1,4 @@
-// A park, a resume and a close of a line, on the card's lent words.
+// A park, a resume and a close of a line, on the card's borrowed words.
 // The caller must ensure that the card is as a call leaves it, that the line is one of its lines, and that the command is as long as its image asks.
 ghost use mathlib.Core.List.{List};
 ghost use Prim.Native.Nat.{ℕ, _<_, _≤_};
@@ -7,7 +7,7 @@ ghost use Rattle.card_sizes.specs.Sizes.{lineCount, resumeLength};
 ghost use Rattle.command.specs.declared.Command.the-variants.{Park, Resume, Close};
 ghost use Rattle.machine.specs.Machine.{Call};
 ghost use Rattle.card_layout.specs.Words.{Sound};
-ghost use Rattle.card_outcome.specs.Leaves.{callOf, Does};
+ghost use Rattle.card_outcome.specs.Leaves.{callOf, CommandLeaves};
 use card_outcome::Outcome;
 use card_outcome::accepted;
 use card_outcome::refused;
@@ -24,7 +24,8 @@ const LAST_PARK: u32 = 4_294_967_295;
 // A park: the image of line i, with the next number, goes to the start of out, the line is idle, and the card holds the number.
 pub fn run_park(card: &mut [u32], i: u8, out: &mut [u8]) -> Outcome
     requires { ⌜ Sound (now card) × (i < lineCount) ⌝ }
-    ensures { λ r. ⌜ ((command tray text : List ℕ) → Does (now (card .entry)) (Park i) (callOf command tray text (now (out .entry))) r (now (card .exit)) (now (out .exit))) ⌝ }
+    ensures { λ r. ⌜ ((command tray text : List ℕ) → CommandLeaves (now (card .entry)) (Park i)
+        (callOf command tray text (now (out .entry))) r (now (card .exit)) (now (out .exit))) ⌝ }
 {
     let mode = card_layout::mode_at(card, i);
     if mode != 1 {
@@ -50,7 +51,8 @@ pub fn run_park(card: &mut [u32], i: u8, out: &mut [u8]) -> Outcome
 pub fn run_resume(card: &mut [u32], i: u8, command: &[u8]) -> Outcome
     requires { ⌜ Sound (now card) × (i < lineCount) ⌝ }
     requires { ⌜ resumeLength ≤ length (now command) ⌝ }
-    ensures { λ r. ⌜ ((tray text out : List ℕ) → Does (now (card .entry)) (Resume i) (callOf (now (command .entry)) tray text out) r (now (card .exit)) out) ⌝ }
+    ensures { λ r. ⌜ ((tray text out : List ℕ) → CommandLeaves (now (card .entry)) (Resume i)
+        (callOf (now (command .entry)) tray text out) r (now (card .exit)) out) ⌝ }
 {
     let mode = card_layout::mode_at(card, i);
     if mode != 0 {
@@ -77,7 +79,7 @@ pub fn run_resume(card: &mut [u32], i: u8, command: &[u8]) -> Outcome
 // A close: line i is idle.
 pub fn run_close(card: &mut [u32], i: u8) -> Outcome
     requires { ⌜ Sound (now card) × (i < lineCount) ⌝ }
-    ensures { λ r. ⌜ ((a : Call) → Does (now (card .entry)) (Close i) a r (now (card .exit)) (a .out)) ⌝ }
+    ensures { λ r. ⌜ ((a : Call) → CommandLeaves (now (card .entry)) (Close i) a r (now (card .exit)) (a .out)) ⌝ }
 {
     let mode = card_layout::mode_at(card, i);
     if mode != 1 {

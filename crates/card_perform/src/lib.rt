@@ -1,10 +1,10 @@
-// What each command does to a card, on the card's lent words: the opens, crypt, park, resume and close.
+// What each command does to a card, on the card's borrowed words: the opens, crypt, park, resume and close.
 // The caller must ensure that the card is as a call leaves it, and that the command is read.
 ghost use mathlib.Core.Path.{_≡_};
 ghost use Rattle.command.specs.Decode.{decodeOf};
 ghost use Rattle.command.specs.declared.Decoded.the-variants.{Run};
 ghost use Rattle.card_layout.specs.Words.{Sound};
-ghost use Rattle.card_outcome.specs.Leaves.{callOf, Does};
+ghost use Rattle.card_outcome.specs.Leaves.{callOf, CommandLeaves};
 use card_crypt::run_crypt;
 use card_open::run_own;
 use card_open::run_tray;
@@ -24,7 +24,9 @@ pub fn perform<'a>(
     out: &mut [u8],
 ) -> Outcome
     requires { ⌜ Sound (now card) × (decodeOf (now command) ≡ Run k) ⌝ }
-    ensures { λ r. ⌜ Does (now (card .entry)) k (callOf (now (command .entry)) (now (tray .entry)) (now («data» .entry)) (now (out .entry))) r (now (card .exit)) (now (out .exit)) ⌝ }
+    ensures { λ r. ⌜ CommandLeaves (now (card .entry)) k
+        (callOf (now (command .entry)) (now (tray .entry)) (now («data» .entry)) (now (out .entry))) r (now (card .exit))
+        (now (out .exit)) ⌝ }
 {
     match k {
         Command::Tray { line, cipher, key } => run_tray(card, line, cipher, key, tray, command),

@@ -1,6 +1,6 @@
 -- The sizes of a state, a line, a card, an image, a key, an IV and the commands, and where the parts of a command and of an image begin; each follows from those above it.
 -- Assumes nothing.
-use Prim.Native.Nat.{ℕ, _+_, _*_}
+use Prim.Native.Nat.{ℕ, _+_, _*_, _^_}
 
 -- the words of a state
 abbrev pub stateWords : ℕ
@@ -41,6 +41,10 @@ imageState = imageNumberAt + 4
 -- the bytes of an image
 abbrev pub imageLength : ℕ
 imageLength = imageState + 4 * stateWords
+
+-- document 01's 2^36, which no position passes
+abbrev pub limit : ℕ
+limit = 2 ^ 36
 
 -- the bytes of a key and of an IV, in a tray and in a command
 abbrev pub keyLength : ℕ

@@ -1,4 +1,5 @@
-// The sizes of a state, a line, a card, an image, a key, an IV and the commands, and where the parts of a command and of an image begin; each follows from those above it.
+// The sizes of a state, a line, a card, an image, a key, an IV and the commands, and where the parts of a command and of an image
+// begin; each follows from those above it.
 
 // The words of a state.
 pub const STATE: usize = 38;
@@ -29,6 +30,9 @@ pub const IMAGE_STATE: usize = IMAGE_NUMBER + 4;
 
 // The bytes of an image.
 pub const IMAGE: usize = IMAGE_STATE + 4 * STATE;
+
+// Document 01's 2^36, which no position passes.
+pub const LIMIT: u64 = 68_719_476_736;
 
 // The bytes of a key and of an IV, in a tray and in a command.
 pub const KEY: usize = 32;

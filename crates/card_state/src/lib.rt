@@ -1,12 +1,12 @@
-// A state as a line holds it: its words copied out of lent ones, and the form that ZUC and SNOW 2.0 share, a register of sixteen words with two behind it.
-// The caller must ensure that as many words are lent as a state has.
+// A state as a line holds it: its words copied out of borrowed ones, and the form that ZUC and SNOW 2.0 share, a register of sixteen words with two behind it.
+// The caller must ensure that as many words are borrowed as a state has.
 ghost use mathlib.Core.Path.{_≡_};
 ghost use mathlib.Core.List.{[], _∷_, _++_};
 ghost use lib.ListN.{length, take, drop};
 ghost use Rattle.card_sizes.specs.Sizes.{stateWords};
 use card_sizes::STATE;
 
-// The words of a state that are lent, as a value.
+// The words of a state that are borrowed, as a value.
 pub fn state_of(w: &[u32]) -> [u32; STATE]
     requires { ⌜ length (now w) ≡ stateWords ⌝ }
     ensures { λ r. ⌜ r ≡ now (w .entry) ⌝ }

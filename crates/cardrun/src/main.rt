@@ -1,6 +1,6 @@
-// The program `cardrun` (document 01): runs the commands of cmd.bin with the keys of tray.bin and the bytes of data.bin, writes all written bytes to out.bin and
-// prints the table of calls. An absent file counts as empty. Where a file cannot be read or out.bin cannot be written, it says so on standard error and prints
-// no table.
+// The program `cardrun` (document 01): runs the commands of cmd.bin with the keys of tray.bin and the bytes of data.bin, writes all
+// written bytes to out.bin and prints the table of calls. An absent file counts as empty. Where a file cannot be read or out.bin cannot
+// be written, it says so on standard error and prints no table.
 use libc::STDOUT_FILENO;
 use session::READ;
 use session::TABLE;

@@ -12,7 +12,7 @@ use Rattle.keystream.specs.Stream.{Gen, stateAt, byteAt, xorFrom}
 use Rattle.keystream.proofs.Laws.{xorFrom-agree}
 use Rattle.keystream.proofs.Parts.{stateAt-along, byteAt-along}
 use Rattle.ciphers.specs.States.{stateWords}
-use Rattle.ciphers.specs.Table.{Cipher, Interface, rowOf, spare}
+use Rattle.ciphers.specs.Table.{CipherRow, Interface, rowOf, zerosFrom}
 use Rattle.ciphers.specs.Fit.{Fit}
 use Rattle.ciphers.proofs.States.{zeros-of}
 use Rattle.ciphers.proofs.Sound.{Laws}
@@ -42,17 +42,17 @@ module _ {S T : Type 0} (g : Gen S) (h : Gen T) (f : S → T) (P : S → Type 0)
 
 -- a cipher's crypt over its state is its row's over the words
 module _ {S : Type 0} (i : Interface S) (P : S → Type 0) (l : Laws i P) where
-  pub row-along : (skip : ℕ) (text out : List ℕ) {w w' : List ℕ} {s s' : S} {out' : List ℕ} → Fit (rowOf i) w → s ≡ i .state w → w' ≡ i .words s'
+  pub row-along : (skip : ℕ) (text out : List ℕ) {w w' : List ℕ} {s s' : S} {out' : List ℕ} → Fit (rowOf i) w → s ≡ i .fromWords w → w' ≡ i .toWords s'
       → Gives (i .gen) s skip text out s' out' → Gives (rowOf i .gen) w skip text out w' out'
   row-along skip text out {w} h q q' d =
-      gives-along (i .gen) (rowOf i .gen) (i .words) P (l .next-range) refl (λ s r. ap (λ (x : S). i .words (i .gen .next x)) (sym (l .read-back s r)))
+      gives-along (i .gen) (rowOf i .gen) (i .toWords) P (l .next-range) refl (λ s r. ap (λ (x : S). i .toWords (i .gen .next x)) (sym (l .read-back s r)))
       (λ s r. ap (i .gen .strm) (sym (l .read-back s r))) skip text out (l .range w h) (l .held w h) q q' d
 
 -- ---- a line's words, as they are lent
 
-pub lent-fit : (w : List ℕ) {d : Cipher} → ((i : ℕ) → Word (getD w i 0)) → length w ≡ stateWords → d .admits w ≡ true → Fit d w
+pub lent-fit : (w : List ℕ) {d : CipherRow} → ((i : ℕ) → Word (getD w i 0)) → length w ≡ stateWords → d .admits w ≡ true → Fit d w
 lent-fit w f e h = record { full = e; words = all-known Word w f; admitted = h }
 
 -- a state's own words put before the padding of a line's are the state's with zeros after them
-pub padded : (k : ℕ) (own w : List ℕ) → length w ≡ stateWords → spare k w ≡ true → own ++ drop k w ≡ own ++ replicate (stateWords - k) 0
+pub padded : (k : ℕ) (own w : List ℕ) → length w ≡ stateWords → zerosFrom k w ≡ true → own ++ drop k w ≡ own ++ replicate (stateWords - k) 0
 padded k own w e h = ap (λ (l : List ℕ). own ++ l) (zeros-of (drop k w) h ∙ ap (λ (n : ℕ). replicate n 0) (length-drop k w ∙ ap (λ (n : ℕ). n - k) e))

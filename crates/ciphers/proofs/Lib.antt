@@ -1,4 +1,3 @@
-pub mod Tests
 pub mod States
 pub mod Sound
 pub mod Numbers

@@ -13,7 +13,7 @@ use Rattle.command.specs.declared.CipherRead.{CipherRead}
 use Rattle.command.specs.declared.CipherRead.the-variants.{Is, Unknown}
 use Rattle.command.specs.Decode.{numberOf, readOf}
 use Rattle.ciphers.specs.Table.{isCipher}
-use Rattle.ciphers.proofs.Tests.{both-false}
+use Rattle.words.proofs.Tests.{both-false}
 
 -- a byte, and what is read from it
 pub data Reads (b : ℕ) : CipherRead → Type 0 where

@@ -19,11 +19,11 @@ use Rattle.kcipher2.specs.Range as KR
 use Rattle.kcipher2.proofs.Ranges as K
 use Rattle.mugi.specs.Range as MR
 use Rattle.mugi.proofs.Ranges as M
-use Rattle.ciphers.specs.Table.{Cipher, Interface, rowOf, zucFace, zuc, rabbitFace, rabbit, snow128Face, snow128, snow256Face, snow256, kcipher2Face, kcipher2, mugiFace, mugi, cipherAt}
+use Rattle.ciphers.specs.Table.{CipherRow, Interface, rowOf, zucFace, zuc, rabbitFace, rabbit, snow128Face, snow128, snow256Face, snow256, kcipher2Face, kcipher2, mugiFace, mugi, cipherAt}
 use Rattle.ciphers.specs.Fit.{Fit}
 use Rattle.ciphers.proofs.States.{zuc-back, zuc-fit, zuc-range, zuc-held, rabbit-back, rabbit-fit, rabbit-range, rabbit-held, snow2-back, snow128-fit, snow256-fit, snow2-range, snow2-held, kcipher2-back, kcipher2-fit, kcipher2-range, kcipher2-held, mugi-back, mugi-fit, mugi-range, mugi-held}
 
-pub record Sound (c : Cipher) : Type 0 where
+pub record Sound (c : CipherRow) : Type 0 where
   pub unit-pos : zero < c .gen .unit
   pub init-fit : (k iv : List ℕ) → All Byte k → All Byte iv → Fit c (c .init k iv)
   pub next-fit : (w : List ℕ) → Fit c w → Fit c (c .gen .next w)
@@ -38,10 +38,10 @@ pub record Laws {S : Type 0} (i : Interface S) (P : S → Type 0) : Type 0 where
   pub next-range : (s : S) → P s → P (i .gen .next s)
   pub unit-length : (s : S) → length (i .gen .strm s) ≡ i .gen .unit
   pub unit-bytes : (s : S) → All Byte (i .gen .strm s)
-  pub read-back : (s : S) → P s → i .state (i .words s) ≡ s
-  pub fit : (s : S) → P s → Fit (rowOf i) (i .words s)
-  pub range : (w : List ℕ) → Fit (rowOf i) w → P (i .state w)
-  pub held : (w : List ℕ) → Fit (rowOf i) w → i .words (i .state w) ≡ w
+  pub read-back : (s : S) → P s → i .fromWords (i .toWords s) ≡ s
+  pub fit : (s : S) → P s → Fit (rowOf i) (i .toWords s)
+  pub range : (w : List ℕ) → Fit (rowOf i) w → P (i .fromWords w)
+  pub held : (w : List ℕ) → Fit (rowOf i) w → i .toWords (i .fromWords w) ≡ w
 
 -- then its row is sound
 pub sound-row : {S : Type 0} (i : Interface S) (P : S → Type 0) → Laws i P → Sound (rowOf i)
@@ -49,9 +49,9 @@ sound-row i P l =
     record {
       unit-pos = l .unit-pos;
       init-fit = λ k iv hk hv. l .fit _ (l .init-range k iv hk hv);
-      next-fit = λ w h. l .fit _ (l .next-range (i .state w) (l .range w h));
-      strm-length = λ w. l .unit-length (i .state w);
-      strm-bytes = λ w. l .unit-bytes (i .state w);
+      next-fit = λ w h. l .fit _ (l .next-range (i .fromWords w) (l .range w h));
+      strm-length = λ w. l .unit-length (i .fromWords w);
+      strm-bytes = λ w. l .unit-bytes (i .fromWords w);
     }
 
 -- ---- each cipher
@@ -148,7 +148,7 @@ mugi-laws =
 
 -- ---- by number
 
-either : (b : Bool) (x y : Cipher) → Sound x → Sound y → Sound (pick b x y)
+either : (b : Bool) (x y : CipherRow) → Sound x → Sound y → Sound (pick b x y)
 either true x y h k = h
 either false x y h k = k
 

@@ -28,9 +28,9 @@ use Rattle.mugi.specs.Range as MR
 use Rattle.mugi.specs.Cipher.{block, left, right}
 use Rattle.mugi.specs.declared.Mugi.{Mugi}
 use Rattle.ciphers.specs.States.{zucWords, zucState, rabbitWords, rabbitState, snow2Words, snow2State, kcipher2Words, kcipher2State, halves, blockIn, mugiWords, mugiState}
-use Rattle.ciphers.specs.Table.{areCells, allZero, spare, zuc, rabbit, snow128, snow256, kcipher2, mugi}
+use Rattle.ciphers.specs.Table.{areCells, allZero, zerosFrom, zuc, rabbit, snow128, snow256, kcipher2, mugi}
 use Rattle.ciphers.specs.Fit.{Fit}
-use Rattle.ciphers.proofs.Tests.{both-left, both-right, both-true}
+use Rattle.words.proofs.Tests.{both-left, both-right, both-true}
 
 -- ---- parts of a list
 
@@ -64,7 +64,7 @@ zeros-of [] h = refl
 zeros-of (x ∷ l) h = cons (eqb-true x 0 (both-left (eqb x 0) (allZero l) h)) (zeros-of l (both-right (eqb x 0) (allZero l) h))
 
 -- words of which all but the first k are padding
-padded : (k n : ℕ) (w : List ℕ) → length w ≡ k + n → spare k w ≡ true → w ≡ tab k (λ i. getD w i 0) ++ replicate n 0
+padded : (k n : ℕ) (w : List ℕ) → length w ≡ k + n → zerosFrom k w ≡ true → w ≡ tab k (λ i. getD w i 0) ++ replicate n 0
 padded k n w e h =
     let m : length w - k ≡ n = omega arith in
     sym (take-append-drop k w)
@@ -111,7 +111,7 @@ unfolding zuc zucState
 zuc-range w h =
     record {
       sixteen = length-take-le 16 w (omega (arith, h .full));
-      cells = areCells-all (take 16 w) (both-left (areCells (take 16 w)) (spare 18 w) (h .admitted));
+      cells = areCells-all (take 16 w) (both-left (areCells (take 16 w)) (zerosFrom 18 w) (h .admitted));
       r1-word = at-word (h .words) 16;
       r2-word = at-word (h .words) 17;
     }
@@ -133,7 +133,7 @@ module _ (s : Snow2) (h : SR.InRange s) where
   unfolding snow2Words
   snow2-words = all-append (h .cells) (more (h .r1-word) (more (h .r2-word) (zero-words 20)))
 
-  snow2-spare : spare 18 (snow2Words s) ≡ true
+  snow2-spare : zerosFrom 18 (snow2Words s) ≡ true
   unfolding snow2Words
   snow2-spare = ap allZero (drop-past (s .s) _ 16 2 (h .sixteen))
 
@@ -305,14 +305,14 @@ zuc-literal f = refl
 pub zuc-held : (w : List ℕ) → Fit zuc w → zucWords (zucState w) ≡ w
 unfolding zuc
 zuc-held w h =
-    let p = padded 18 20 w (h .full) (both-right (areCells (take 16 w)) (spare 18 w) (h .admitted)) in
+    let p = padded 18 20 w (h .full) (both-right (areCells (take 16 w)) (zerosFrom 18 w) (h .admitted)) in
     ap (λ (x : List ℕ). zucWords (zucState x)) p ∙ zuc-literal (λ i. getD w i 0) ∙ sym p
 
 snow2-literal : (f : ℕ → ℕ) → snow2Words (snow2State (tab 18 f ++ replicate 20 0)) ≡ tab 18 f ++ replicate 20 0
 unfolding snow2Words snow2State
 snow2-literal f = refl
 
-pub snow2-held : (w : List ℕ) → length w ≡ 38 → spare 18 w ≡ true → snow2Words (snow2State w) ≡ w
+pub snow2-held : (w : List ℕ) → length w ≡ 38 → zerosFrom 18 w ≡ true → snow2Words (snow2State w) ≡ w
 snow2-held w e s =
     let p = padded 18 20 w e s in
     ap (λ (x : List ℕ). snow2Words (snow2State x)) p ∙ snow2-literal (λ i. getD w i 0) ∙ sym p
@@ -324,8 +324,8 @@ rabbit-literal f c = rw c
 pub rabbit-held : (w : List ℕ) → Fit rabbit w → rabbitWords (rabbitState w) ≡ w
 unfolding rabbit
 rabbit-held w h =
-    let t = both-left (pick (eqb (getD w 16 0) 0) true (eqb (getD w 16 0) (2 ^ 24))) (spare 17 w) (h .admitted) in
-    let p = padded 17 21 w (h .full) (both-right (pick (eqb (getD w 16 0) 0) true (eqb (getD w 16 0) (2 ^ 24))) (spare 17 w) (h .admitted)) in
+    let t = both-left (pick (eqb (getD w 16 0) 0) true (eqb (getD w 16 0) (2 ^ 24))) (zerosFrom 17 w) (h .admitted) in
+    let p = padded 17 21 w (h .full) (both-right (pick (eqb (getD w 16 0) 0) true (eqb (getD w 16 0) (2 ^ 24))) (zerosFrom 17 w) (h .admitted)) in
     ap (λ (x : List ℕ). rabbitWords (rabbitState x)) p ∙ rabbit-literal (λ i. getD w i 0) (byte (getD w 16 0) (eqb (getD w 16 0) 0) refl t) ∙ sym p
   where
     byte : (x : ℕ) (b : Bool) → eqb x 0 ≡ b → pick b true (eqb x (2 ^ 24)) ≡ true → x / 2 ^ 24 * 2 ^ 24 ≡ x
@@ -336,7 +336,7 @@ kcipher2-literal : (f : ℕ → ℕ) → kcipher2Words (kcipher2State (tab 20 f 
 unfolding kcipher2Words kcipher2State
 kcipher2-literal f = refl
 
-pub kcipher2-held : (w : List ℕ) → length w ≡ 38 → spare 20 w ≡ true → kcipher2Words (kcipher2State w) ≡ w
+pub kcipher2-held : (w : List ℕ) → length w ≡ 38 → zerosFrom 20 w ≡ true → kcipher2Words (kcipher2State w) ≡ w
 kcipher2-held w e s =
     let p = padded 20 18 w e s in
     ap (λ (x : List ℕ). kcipher2Words (kcipher2State x)) p ∙ kcipher2-literal (λ i. getD w i 0) ∙ sym p

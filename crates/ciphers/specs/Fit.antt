@@ -7,9 +7,9 @@ use Prim.Native.Nat.{ℕ}
 use lib.ListN.{length}
 use Rattle.words.specs.Lists.{All, Word}
 use Rattle.ciphers.specs.States.{stateWords}
-use Rattle.ciphers.specs.Table.{Cipher}
+use Rattle.ciphers.specs.Table.{CipherRow}
 
-pub record Fit (c : Cipher) (w : List ℕ) : Type 0 where
+pub record Fit (c : CipherRow) (w : List ℕ) : Type 0 where
   pub full : length w ≡ stateWords
   pub words : All Word w
   pub admitted : c .admits w ≡ true

@@ -20,7 +20,7 @@ use Rattle.mugi.specs.Cipher as M
 use Rattle.ciphers.specs.States.{zucWords, zucState, rabbitWords, rabbitState, snow2Words, snow2State, kcipher2Words, kcipher2State, mugiWords, mugiState}
 
 -- a cipher as a line holds it, with states as words
-pub record Cipher : Type 0 where
+pub record CipherRow : Type 0 where
   -- the bytes of its key and of its IV
   pub key : ℕ
   pub iv : ℕ
@@ -37,18 +37,18 @@ pub record Interface (S : Type 0) : Type 0 where
   pub iv : ℕ
   pub gen : Gen S
   pub init : List ℕ → List ℕ → S
-  pub words : S → List ℕ
-  pub state : List ℕ → S
+  pub toWords : S → List ℕ
+  pub fromWords : List ℕ → S
   pub admits : List ℕ → Bool
 
 -- its row of the table
-abbrev pub rowOf : {S : Type 0} → Interface S → Cipher
+abbrev pub rowOf : {S : Type 0} → Interface S → CipherRow
 rowOf i =
     record {
       key = i .key;
       iv = i .iv;
-      gen = record { unit = i .gen .unit; next = λ w. i .words (i .gen .next (i .state w)); strm = λ w. i .gen .strm (i .state w) };
-      init = λ k iv. i .words (i .init k iv);
+      gen = record { unit = i .gen .unit; next = λ w. i .toWords (i .gen .next (i .fromWords w)); strm = λ w. i .gen .strm (i .fromWords w) };
+      init = λ k iv. i .toWords (i .init k iv);
       admits = i .admits;
     }
 
@@ -71,8 +71,8 @@ abbrev pub allZero : List ℕ → Bool
 allZero l = allOf isZero l
 
 -- the words from k on are padding
-abbrev pub spare : ℕ → List ℕ → Bool
-spare k w = allZero (drop k w)
+abbrev pub zerosFrom : ℕ → List ℕ → Bool
+zerosFrom k w = allZero (drop k w)
 
 -- 1: ZUC. No cell is 0 or over 2^31 - 1.
 abbrev pub zucFace : Interface Zuc
@@ -82,12 +82,12 @@ zucFace =
       iv = 16;
       gen = record { unit = Z.u; next = Z.next; strm = Z.unit };
       init = Z.init;
-      words = zucWords;
-      state = zucState;
-      admits = λ w. both (areCells (take 16 w)) (spare 18 w);
+      toWords = zucWords;
+      fromWords = zucState;
+      admits = λ w. both (areCells (take 16 w)) (zerosFrom 18 w);
     }
 
-unfoldable pub zuc : Cipher
+unfoldable pub zuc : CipherRow
 zuc = rowOf zucFace
 
 -- 2: Rabbit. The carry is 0 or 1, and nothing but zeros comes after its byte.
@@ -98,12 +98,12 @@ rabbitFace =
       iv = 8;
       gen = record { unit = R.u; next = R.next; strm = R.unit };
       init = R.init;
-      words = rabbitWords;
-      state = rabbitState;
-      admits = λ w. both (pick (eqb (getD w 16 0) 0) true (eqb (getD w 16 0) (2 ^ 24))) (spare 17 w);
+      toWords = rabbitWords;
+      fromWords = rabbitState;
+      admits = λ w. both (pick (eqb (getD w 16 0) 0) true (eqb (getD w 16 0) (2 ^ 24))) (zerosFrom 17 w);
     }
 
-unfoldable pub rabbit : Cipher
+unfoldable pub rabbit : CipherRow
 rabbit = rowOf rabbitFace
 
 -- 3 and 4: SNOW 2.0, with a key of 16 bytes and of 32
@@ -114,12 +114,12 @@ snow128Face =
       iv = 16;
       gen = record { unit = S.u; next = S.next; strm = S.unit };
       init = S.init128;
-      words = snow2Words;
-      state = snow2State;
-      admits = spare 18;
+      toWords = snow2Words;
+      fromWords = snow2State;
+      admits = zerosFrom 18;
     }
 
-unfoldable pub snow128 : Cipher
+unfoldable pub snow128 : CipherRow
 snow128 = rowOf snow128Face
 
 abbrev pub snow256Face : Interface Snow2
@@ -129,12 +129,12 @@ snow256Face =
       iv = 16;
       gen = record { unit = S.u; next = S.next; strm = S.unit };
       init = S.init256;
-      words = snow2Words;
-      state = snow2State;
-      admits = spare 18;
+      toWords = snow2Words;
+      fromWords = snow2State;
+      admits = zerosFrom 18;
     }
 
-unfoldable pub snow256 : Cipher
+unfoldable pub snow256 : CipherRow
 snow256 = rowOf snow256Face
 
 -- 5: KCipher-2
@@ -145,12 +145,12 @@ kcipher2Face =
       iv = 16;
       gen = record { unit = K.u; next = K.next; strm = K.unit };
       init = K.init;
-      words = kcipher2Words;
-      state = kcipher2State;
-      admits = spare 20;
+      toWords = kcipher2Words;
+      fromWords = kcipher2State;
+      admits = zerosFrom 20;
     }
 
-unfoldable pub kcipher2 : Cipher
+unfoldable pub kcipher2 : CipherRow
 kcipher2 = rowOf kcipher2Face
 
 -- 6: MUGI, whose state has all the words
@@ -161,12 +161,12 @@ mugiFace =
       iv = 16;
       gen = record { unit = M.u; next = M.next; strm = M.unit };
       init = M.init;
-      words = mugiWords;
-      state = mugiState;
+      toWords = mugiWords;
+      fromWords = mugiState;
       admits = λ w. true;
     }
 
-unfoldable pub mugi : Cipher
+unfoldable pub mugi : CipherRow
 mugi = rowOf mugiFace
 
 -- the numbers that 4 and 8 admit
@@ -174,5 +174,5 @@ abbrev pub isCipher : ℕ → Bool
 isCipher c = both (leb 1 c) (leb c 6)
 
 -- the cipher of a number; a line that is idle has none, and there the last stands
-unfoldable pub cipherAt : ℕ → Cipher
+unfoldable pub cipherAt : ℕ → CipherRow
 cipherAt c = pick (eqb c 1) zuc (pick (eqb c 2) rabbit (pick (eqb c 3) snow128 (pick (eqb c 4) snow256 (pick (eqb c 5) kcipher2 mugi))))

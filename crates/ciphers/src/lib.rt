@@ -1,5 +1,5 @@
-// Document 01's table of ciphers, by number, with states as thirty-eight words: specs/ has the table, proofs/ what holds of each cipher, and the code here is the columns
-// that the card reads.
+// Document 01's table of ciphers, by number, with states as thirty-eight words: specs/ has the table, proofs/ what holds of each
+// cipher, and the code here is the columns that the card reads.
 ghost use mathlib.Core.Path.{_≡_};
 ghost use Rattle.command.specs.Decode.{numberOf};
 ghost use Rattle.ciphers.specs.Table.{cipherAt};

@@ -1,6 +1,6 @@
 -- A list of refusals as a whole: a claim about what it gives follows where it holds of each refusal, and of what is left where no row is given.
 -- Assumes nothing.
-use mathlib.Core.Path.{_≡_, refl}
+use mathlib.Core.Path.{_≡_, refl, ap, sym, _∙_}
 use mathlib.Core.Bool.{Bool, true, false}
 use mathlib.Core.List.{List, [], _∷_}
 use Prim.Native.Nat.{ℕ, _≤_}
@@ -9,7 +9,7 @@ use lib.Dec.{T, eqb, leb, leb→le}
 use borrow.Author.Tests.{ne-eqb}
 use Rattle.words.specs.Tests.{both, pick}
 use Rattle.words.proofs.Table.{both-left, both-right}
-use Rattle.command.specs.Rows.{Row, unless, lastNumber}
+use Rattle.command.specs.Rows.{Row, unless, codeOf, lastNumber}
 
 -- no row is given
 abbrev pub AllPassed : List Row → Type 0
@@ -55,3 +55,22 @@ below k z = leb→le k lastNumber (both-right (leb 1 k) (leb k lastNumber) z)
 
 pub not-zero : (k : ℕ) → T (isNumber k) → eqb k 0 ≡ false
 not-zero k z = let h = above k z in ne-eqb k 0 (λ e. let q : k ≡ 0 = e in omega arith)
+
+-- ---- the number of a list of refusals
+
+pub code-yes : (r : Row) (rs : List Row) → r .given ≡ true → codeOf (r ∷ rs) ≡ r .number
+code-yes r rs h = ap (λ (b : Bool). pick b (r .number) (codeOf rs)) h
+
+pub code-no : (r : Row) (rs : List Row) → r .given ≡ false → codeOf (r ∷ rs) ≡ codeOf rs
+code-no r rs h = ap (λ (b : Bool). pick b (r .number) (codeOf rs)) h
+
+-- where it is 0 no row is given, since no row has the number 0
+pub code-passed : (rs : List Row) → T (everyNumber (leb 1) rs) → codeOf rs ≡ 0 → AllPassed rs
+code-passed [] n e = tt
+code-passed (r ∷ rs) n e = by (r .given) refl (λ q. code-passed rs (both-right (leb 1 (r .number)) (everyNumber (leb 1) rs) n) q)
+  where
+    by : (b : Bool) → r .given ≡ b → (codeOf rs ≡ 0 → AllPassed rs) → (r .given ≡ false) × AllPassed rs
+    by true h f =
+        let z : r .number ≡ 0 = sym (code-yes r rs h) ∙ e in
+        absurd (let p = leb→le 1 (r .number) (both-left (leb 1 (r .number)) (everyNumber (leb 1) rs) n) in omega (arith, z, p))
+    by false h f = (h, f (sym (code-no r rs h) ∙ e))

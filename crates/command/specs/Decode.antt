@@ -107,17 +107,17 @@ pub record Operands : Type 0 where
   pub kind : ℕ
   pub line : ℕ
   pub cipher : ℕ
-  pub key : ℕ
-  pub iv : ℕ
+  pub keyNumber : ℕ
+  pub ivAt : ℕ
   pub count : ℕ
 
 abbrev pub operandsOf : Command → Operands
-operandsOf (Tray i c k) = record { kind = 1; line = i; cipher = numberOf c; key = k; iv = trayIv; count = 0 }
-operandsOf (Own i c) = record { kind = 2; line = i; cipher = numberOf c; key = 0; iv = ownIv; count = 0 }
-operandsOf (Crypt i n) = record { kind = 3; line = i; cipher = 0; key = 0; iv = 0; count = n }
-operandsOf (Park i) = record { kind = 4; line = i; cipher = 0; key = 0; iv = 0; count = 0 }
-operandsOf (Resume i) = record { kind = 5; line = i; cipher = 0; key = 0; iv = 0; count = 0 }
-operandsOf (Close i) = record { kind = 6; line = i; cipher = 0; key = 0; iv = 0; count = 0 }
+operandsOf (Tray i c k) = record { kind = 1; line = i; cipher = numberOf c; keyNumber = k; ivAt = trayIv; count = 0 }
+operandsOf (Own i c) = record { kind = 2; line = i; cipher = numberOf c; keyNumber = 0; ivAt = ownIv; count = 0 }
+operandsOf (Crypt i n) = record { kind = 3; line = i; cipher = 0; keyNumber = 0; ivAt = 0; count = n }
+operandsOf (Park i) = record { kind = 4; line = i; cipher = 0; keyNumber = 0; ivAt = 0; count = 0 }
+operandsOf (Resume i) = record { kind = 5; line = i; cipher = 0; keyNumber = 0; ivAt = 0; count = 0 }
+operandsOf (Close i) = record { kind = 6; line = i; cipher = 0; keyNumber = 0; ivAt = 0; count = 0 }
 
 -- the line that a command names, and its length
 abbrev pub lineOf : Command → ℕ

@@ -1,5 +1,5 @@
 // Commands and ciphers as enums, the lengths of the commands by their kinds, and the number of a command that is not read.
-// A caller holds nothing: any byte is read.
+// The caller need not ensure anything: any byte is read.
 ghost use mathlib.Core.Path.{_≡_};
 ghost use Rattle.command.specs.Decode.{readOf, lengthOf, refusalOf};
 use card_sizes::CLOSE;

@@ -1,5 +1,5 @@
-// Numbers in decimal, put to the start of a lent buffer.
-// A caller holds that the buffer has room for the longest number.
+// Numbers in decimal, put to the start of a borrowed buffer.
+// The caller must ensure that the buffer has room for the longest number.
 ghost use mathlib.Core.Path.{_≡_};
 ghost use mathlib.Core.List.{[], _∷_, _++_};
 ghost use Prim.Native.Nat.{_≤_};

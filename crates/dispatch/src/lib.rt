@@ -1,12 +1,11 @@
 // What a line does by its cipher: S(0) of key and IV, and a crypt from a byte of a unit on, each over the line's words.
-// A caller holds the lengths of key and IV, a state that the cipher admits, a place within a unit, and a buffer as long as the text.
+// The caller must ensure the lengths of key and IV, a state that the cipher admits, a place within a unit, and a buffer as long as the text.
 
 ghost use mathlib.Core.Path.{_≡_};
 ghost use mathlib.Core.Bool.{true};
-ghost use mathlib.Core.List.{_++_};
-ghost use Prim.Native.Nat.{_+_, _/_, _<_, _≤_};
-ghost use lib.ListN.{length, drop};
-ghost use Rattle.keystream.specs.Stream.{stateAt, byteAt, xorFrom};
+ghost use Prim.Native.Nat.{_<_, _≤_};
+ghost use lib.ListN.{length};
+ghost use Rattle.keystream.specs.Stream.{TextCrypted};
 ghost use Rattle.card_sizes.specs.Sizes.{stateWords};
 ghost use Rattle.ciphers.specs.Table.{cipherAt};
 ghost use Rattle.command.specs.Decode.{numberOf};
@@ -34,7 +33,8 @@ pub fn open(c: Cipher, key: &[u8], iv: &[u8]) -> [u32; STATE]
 pub fn crypt(c: Cipher, w: &mut [u32], skip: usize, text: &[u8], out: &mut [u8])
     requires { ⌜ (length (now w) ≡ stateWords) × (cipherAt (numberOf c) .admits (now w) ≡ true) ⌝ }
     requires { ⌜ (skip < cipherAt (numberOf c) .gen .unit) × (length (now text) ≤ length (now out)) ⌝ }
-    ensures { λ _. ⌜ (now (w .exit) ≡ stateAt (cipherAt (numberOf c) .gen) (now (w .entry)) 0 ((skip + length (now (text .entry))) / cipherAt (numberOf c) .gen .unit)) × (now (out .exit) ≡ xorFrom (byteAt (cipherAt (numberOf c) .gen) (now (w .entry)) 0) skip (now (text .entry)) ++ drop (length (now (text .entry))) (now (out .entry))) ⌝ }
+    ensures { λ _. ⌜ TextCrypted (cipherAt (numberOf c) .gen) skip (now (w .entry)) (now (text .entry)) (now (out .entry))
+        (now (w .exit)) (now (out .exit)) ⌝ }
 {
     match c {
         Cipher::Zuc => zuc_words::xor_text(w, skip, text, out),

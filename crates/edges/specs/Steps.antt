@@ -116,7 +116,7 @@ keyed c t = record { command = c; tray = t; text = []; out = [] }
 
 -- its code and its three counts
 unfoldable pub answer : Seen → Call → List ℕ
-answer c a = let o = cardStep c a .outcome in o .code ∷ o .used-command ∷ o .used-data ∷ length (o .written) ∷ []
+answer c a = let o = cardStep c a .outcome in o .code ∷ o .used-command ∷ o .used-data ∷ length (o .output) ∷ []
 
 -- the modes and the positions of the lines after it
 unfoldable pub modes : Seen → Call → List ℕ
@@ -134,7 +134,7 @@ numbers c a = numbersOn (cardStep c a .card)
 
 -- the bytes that it wrote
 unfoldable pub writes : Seen → Call → List ℕ
-writes c a = cardStep c a .outcome .written
+writes c a = cardStep c a .outcome .output
 
 -- a refusal: its number and three zeros
 abbrev refusal : ℕ → List ℕ
@@ -158,7 +158,7 @@ reads =
     ∷ answer eight (lent (3 ∷ 8 ∷ []) 0 0 0) gives refusal 1
     ∷ answer eight (lent (close 8) 0 0 0) gives refusal 3
     ∷ answer eight (lent (close 255) 0 0 0) gives refusal 3
-    -- a line over 7 before a cipher that is none
+    -- a line over 7 before an unknown cipher
     ∷ answer eight (lent (own 8 7 16 16) 0 0 0) gives refusal 3
     ∷ answer eight (lent (own 0 0 16 16) 0 0 0) gives refusal 4
     ∷ answer eight (lent (own 0 7 16 16) 0 0 0) gives refusal 4

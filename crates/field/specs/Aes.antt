@@ -18,12 +18,12 @@ abbrev pub inverse : ℕ → ℕ
 inverse a = squares 7 a
 
 -- the eight digits of a moved k places up, those that leave coming in below
-abbrev pub turned : ℕ → ℕ → ℕ
-turned k a = a * 2 ^ k % 2 ^ 8 + a * 2 ^ k / 2 ^ 8
+abbrev pub rotated : ℕ → ℕ → ℕ
+rotated k a = a * 2 ^ k % 2 ^ 8 + a * 2 ^ k / 2 ^ 8
 
 -- the affine map
 abbrev pub affine : ℕ → ℕ
-affine a = a ⊕ turned 1 a ⊕ turned 2 a ⊕ turned 3 a ⊕ turned 4 a ⊕ 0x63
+affine a = a ⊕ rotated 1 a ⊕ rotated 2 a ⊕ rotated 3 a ⊕ rotated 4 a ⊕ 0x63
 
 -- SUB
 unfoldable pub sub : ℕ → ℕ

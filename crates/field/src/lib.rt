@@ -1,5 +1,5 @@
-// Products in GF(2^32) and the function T of AES's parts, by lent tables.
-// A caller holds what a `requires` names: the lent table is the one that this crate makes.
+// Products in GF(2^32) and the function T of AES's parts, by borrowed tables.
+// The caller must ensure what a `requires` names: the borrowed table is the one that this crate makes.
 pub mod tables;
 
 ghost use mathlib.Core.Path.{_≡_};

@@ -1,4 +1,4 @@
-// The tables of AES. An index into a constant builds the constant anew, so whoever runs many steps makes a table once and lends it.
+// The tables of AES. An index into a constant builds the constant anew, so whoever runs many steps makes a table once and passes it by reference.
 ghost use mathlib.Core.Path.{_≡_};
 ghost use Rattle.field.specs.Tables.{subList, columnList};
 

@@ -13,11 +13,11 @@ use Rattle.field.specs.Gf32.{alpha}
 use Rattle.field.proofs.Elements.{times-word}
 use Rattle.field.proofs.Columns.{fnT-word}
 use Rattle.kcipher2_tables.specs.Tables.{field0, field1, field2, field3}
-use Rattle.kcipher2.specs.Cipher.{cellA, cellB, pick, strmHigh, strmLow, fedA, fedB, oneOrTwo, threeOrNone, clocked, next, nextInit, firstOf, expanded, cellsA, cellsB, arranged, key4, loaded, init, unit, u}
+use Rattle.kcipher2.specs.Cipher.{cellA, cellB, byDigit, strmHigh, strmLow, fedA, fedB, oneOrTwo, threeOrNone, clocked, next, nextInit, firstOf, expanded, cellsA, cellsB, arranged, key4, loaded, init, unit, u}
 use Rattle.kcipher2.specs.Range.{InRange}
 use Rattle.kcipher2.specs.declared.Kcipher2.{Kcipher2}
 
-pick-word : (e : ℕ) {x y : ℕ} → Word x → Word y → Word (pick e x y)
+pick-word : (e : ℕ) {x y : ℕ} → Word x → Word y → Word (byDigit e x y)
 pick-word zero hx hy = hy
 pick-word (suc e) hx hy = hx
 

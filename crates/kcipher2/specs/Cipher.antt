@@ -18,14 +18,14 @@ cellA s m = getD (s .a) m 0
 abbrev pub cellB : Kcipher2 → ℕ → ℕ
 cellB s m = getD (s .b) m 0
 
--- 8.5.10
+-- 8.5.10: NLF
 abbrev pub nlf : ℕ → ℕ → ℕ → ℕ → ℕ
 nlf a b c d = (a +₃₂ b) ⊕ c ⊕ d
 
 -- x where the digit e is 1, and y where it is 0
-abbrev pub pick : ℕ → ℕ → ℕ → ℕ
-pick zero x y = y
-pick (suc e) x y = x
+abbrev pub byDigit : ℕ → ℕ → ℕ → ℕ
+byDigit zero x y = y
+byDigit (suc e) x y = x
 
 -- 8.5.4: the two words of Strm
 unfoldable pub strmHigh : Kcipher2 → ℕ
@@ -37,35 +37,35 @@ strmLow s = nlf (cellB s 0) (s .r2) (s .r1) (cellA s 4)
 unfoldable pub strm : Kcipher2 → List ℕ
 strm s = strmHigh s ∷ strmLow s ∷ []
 
--- 8.5.3 d): the word that comes into A, in null mode; in INIT mode the low word of Strm is added
+-- 8.5.3 d), with the product of 8.5.6: the word that comes into A, in null mode; in INIT mode the low word of Strm is added
 unfoldable pub fedA : Kcipher2 → ℕ
 fedA s = times field0 alpha (cellA s 0) ⊕ cellA s 3
 
--- α1^e + α2^(1 - e) - 1, times w: α1 w where e is 1, and α2 w where it is 0
+-- 8.5.7 and 8.5.8: α1^e + α2^(1 - e) - 1, times w: α1 w where e is 1, and α2 w where it is 0
 unfoldable pub oneOrTwo : ℕ → ℕ → ℕ
-oneOrTwo e w = pick e (times field1 alpha w) (times field2 alpha w)
+oneOrTwo e w = byDigit e (times field1 alpha w) (times field2 alpha w)
 
--- α3^e, times w
+-- 8.5.9: α3^e, times w
 unfoldable pub threeOrNone : ℕ → ℕ → ℕ
-threeOrNone e w = pick e (times field3 alpha w) w
+threeOrNone e w = byDigit e (times field3 alpha w) w
 
 -- 8.5.3 e): the word that comes into B, in null mode; in INIT mode the high word of Strm is added
 unfoldable pub fedB : Kcipher2 → ℕ
 fedB s = oneOrTwo (bit 30 (cellA s 2)) (cellB s 0) ⊕ cellB s 1 ⊕ cellB s 6 ⊕ threeOrNone (bit 31 (cellA s 2)) (cellB s 8)
 
 -- 8.5.3 f): A and B moved, with the words x and y, and the words of the nonlinear part
-abbrev pub moved : Kcipher2 → (x y r1 l1 r2 l2 : ℕ) → Kcipher2
-moved s x y r1 l1 r2 l2 = record { a = shifted (s .a) x; b = shifted (s .b) y; r1 = r1; l1 = l1; r2 = r2; l2 = l2 }
+abbrev pub pushed : Kcipher2 → (x y r1 l1 r2 l2 : ℕ) → Kcipher2
+pushed s x y r1 l1 r2 l2 = record { a = shifted (s .a) x; b = shifted (s .b) y; r1 = r1; l1 = l1; r2 = r2; l2 = l2 }
 
 -- 8.5.3 a) to c) and f): the next state, with the words x and y
-abbrev pub right : Kcipher2 → ℕ
-right s = s .l2 +₃₂ cellB s 9
+abbrev pub sumRight : Kcipher2 → ℕ
+sumRight s = s .l2 +₃₂ cellB s 9
 
-abbrev pub left : Kcipher2 → ℕ
-left s = s .r2 +₃₂ cellB s 4
+abbrev pub sumLeft : Kcipher2 → ℕ
+sumLeft s = s .r2 +₃₂ cellB s 4
 
 unfoldable pub clocked : Kcipher2 → ℕ → ℕ → Kcipher2
-clocked s x y = moved s x y (fnT (right s)) (fnT (left s)) (fnT (s .r1)) (fnT (s .l1))
+clocked s x y = pushed s x y (fnT (sumRight s)) (fnT (sumLeft s)) (fnT (s .r1)) (fnT (s .l1))
 
 -- 8.5.3: Next in null mode, and in INIT mode
 unfoldable pub next : Kcipher2 → Kcipher2

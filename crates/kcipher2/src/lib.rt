@@ -1,11 +1,12 @@
 // KCipher-2 (ISO/IEC 18033-4, 8.5): a state by value, its steps in both modes and its output.
-// A caller lends the tables that `kcipher2_tables` and `field::tables::column` make.
+// The caller passes the tables that `kcipher2_tables` and `field::tables::column` make by reference.
 ghost use mathlib.Core.Path.{_≡_};
 ghost use Prim.Native.Nat.{_<_};
 ghost use Rattle.words.specs.Lists.{shifted};
 ghost use Rattle.field.specs.Tables.{columnList};
 ghost use Rattle.kcipher2_tables.specs.Tables.{alpha0List, alpha1List, alpha2List, alpha3List, Lent};
-ghost use Rattle.kcipher2.specs.Cipher.{pick as pickOf, nlf as nlfOf, oneOrTwo, threeOrNone, strmHigh, strmLow, strm, fedA, fedB, moved as movedOf, right as rightOf, left as leftOf, clocked, next, nextInit};
+ghost use Rattle.kcipher2.specs.Cipher.{byDigit as pickOf, nlf as nlfOf, oneOrTwo, threeOrNone, strmHigh, strmLow, strm, fedA, fedB};
+ghost use Rattle.kcipher2.specs.Cipher.{pushed as movedOf, sumRight as rightOf, sumLeft as leftOf, clocked, next, nextInit};
 
 // A0..A4, B0..B10, R1, L1, R2 and L2.
 pub struct Kcipher2 {

@@ -1,5 +1,6 @@
 // The start of KCipher-2 from key and IV (ISO/IEC 18033-4, 8.5.2): the state before any step, and S(0).
-// A caller holds the lengths of key and IV, sixteen bytes each, and lends the tables that `kcipher2_tables` and `field::tables::column` make.
+// The caller must ensure the lengths of key and IV, sixteen bytes each, and passes by reference the tables that `kcipher2_tables` and
+// `field::tables::column` make.
 ghost use mathlib.Core.Path.{_≡_};
 ghost use lib.ListN.{length};
 ghost use Rattle.field.specs.Tables.{columnList};

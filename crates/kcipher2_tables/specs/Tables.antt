@@ -6,7 +6,7 @@ use Prim.Native.Nat.{ℕ}
 use Rattle.field.specs.Gf32.{Field}
 use Rattle.field.specs.Tables.{columnList}
 
--- the fields of α0 to α3, each with a GF(2^8) of its own: x^8 + x^7 + x^6 + x + 1, x^8 + x^5 + x^3 + x^2 + 1, x^8 + x^6 + x^3 + x^2 + 1 and
+-- 8.5.6 to 8.5.9: the fields of α0 to α3, each with a GF(2^8) of its own: x^8 + x^7 + x^6 + x + 1, x^8 + x^5 + x^3 + x^2 + 1, x^8 + x^6 + x^3 + x^2 + 1 and
 -- x^8 + x^6 + x^5 + x^2 + 1. No document prints them; the printed tables are their products with y^4.
 abbrev pub field0 : Field
 field0 = record { modulus = 0x1c3; y4 = 0xb6086d1a }

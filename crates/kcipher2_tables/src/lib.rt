@@ -1,4 +1,4 @@
-// The tables of KCipher-2. An index into a constant builds the constant anew, so whoever runs many steps makes a table once and lends it.
+// The tables of KCipher-2. An index into a constant builds the constant anew, so whoever runs many steps makes a table once and passes it by reference.
 ghost use mathlib.Core.Path.{_≡_};
 ghost use Rattle.kcipher2_tables.specs.Tables.{alpha0List, alpha1List, alpha2List, alpha3List};
 

@@ -1,10 +1,9 @@
 // KCipher-2 over a text: the tables made once, then a buffer of keystream to a turn, whole units by `fill`, and the tail's unit without a step.
-// A caller holds that the place in the unit is one of its eight bytes and that the text fits the buffer.
+// The caller must ensure that the place in the unit is one of its eight bytes and that the text fits the buffer.
 ghost use mathlib.Core.Path.{_≡_};
-ghost use mathlib.Core.List.{_++_};
-ghost use Prim.Native.Nat.{_+_, _/_, _≤_, _<_};
-ghost use lib.ListN.{length, drop};
-ghost use Rattle.keystream.specs.Stream.{stateAt, byteAt, xorFrom, Did};
+ghost use Prim.Native.Nat.{_+_, _≤_, _<_};
+ghost use lib.ListN.{length};
+ghost use Rattle.keystream.specs.Stream.{TextCrypted, PartCrypted};
 ghost use Rattle.kcipher2_tables.specs.Tables.{Lent};
 ghost use Rattle.kcipher2.specs.Generator.{gen};
 use kcipher2::Kcipher2;
@@ -27,7 +26,7 @@ fn turn(
 ) -> Kcipher2
     requires { ⌜ Lent (now m0) (now m1) (now m2) (now m3) (now t) ⌝ }
     requires { ⌜ (length (now ks) ≡ 256) × ((from + used ≤ 256) × ((used ≤ length (now text)) × (used ≤ length (now out)))) ⌝ }
-    ensures { λ r. ⌜ Did gen from st used (now (text .entry)) (now (out .entry)) r (now (out .exit)) ⌝ }
+    ensures { λ r. ⌜ PartCrypted gen from st used (now (text .entry)) (now (out .entry)) r (now (out .exit)) ⌝ }
 {
     let end = from + used;
     let whole = end - end % 8;
@@ -53,7 +52,7 @@ fn turns(
 ) -> Kcipher2
     requires { ⌜ Lent (now m0) (now m1) (now m2) (now m3) (now t) ⌝ }
     requires { ⌜ (from < 8) × (length (now text) ≤ length (now out)) ⌝ }
-    ensures { λ r. ⌜ Did gen from st (length (now (text .entry))) (now (text .entry)) (now (out .entry)) r (now (out .exit)) ⌝ }
+    ensures { λ r. ⌜ PartCrypted gen from st (length (now (text .entry))) (now (text .entry)) (now (out .entry)) r (now (out .exit)) ⌝ }
 {
     let count = text.len();
     let mut ks = [0u8; 256];
@@ -85,7 +84,7 @@ fn turns(
 // which the next byte lies.
 pub fn crypt(st: Kcipher2, skip: usize, text: &[u8], out: &mut [u8]) -> Kcipher2
     requires { ⌜ (skip < 8) × (length (now text) ≤ length (now out)) ⌝ }
-    ensures { λ r. ⌜ (r ≡ stateAt gen st 0 ((skip + length (now (text .entry))) / 8)) × (now (out .exit) ≡ xorFrom (byteAt gen st 0) skip (now (text .entry)) ++ drop (length (now (text .entry))) (now (out .entry))) ⌝ }
+    ensures { λ r. ⌜ TextCrypted gen skip st (now (text .entry)) (now (out .entry)) r (now (out .exit)) ⌝ }
 {
     let m0 = kcipher2_tables::alpha0();
     let m1 = kcipher2_tables::alpha1();

@@ -13,7 +13,7 @@ use Rattle.keystream.specs.Stream.{Filled}
 use Rattle.keystream.proofs.Parts.{tail-length}
 use Rattle.keystream.proofs.Filling.{part-more, filled-one, filled-lent, filled-front, filled-length}
 use Rattle.kcipher2.specs.declared.Kcipher2.{Kcipher2}
-use Rattle.kcipher2.specs.Cipher.{strm, unit, next, fedA, fedB, right, left, moved, clocked}
+use Rattle.kcipher2.specs.Cipher.{strm, unit, next, fedA, fedB, sumRight, sumLeft, pushed, clocked}
 use Rattle.kcipher2.specs.Generator.{gen}
 
 pub unit-length : (s : Kcipher2) → length (unit s) ≡ 8
@@ -28,13 +28,13 @@ unit-put s z ks o1 o2 e room h1 h2 =
     ∙ ap (λ (l : List ℕ). (bytesOf (getD l 0 0) ++ bytesOf (getD l 1 0)) ++ drop 8 ks) e
 
 -- a step in its parts
-pub stepped : (s s' : Kcipher2) (x y a b r1 l1 r2 l2 : ℕ) → x ≡ fedA s → y ≡ fedB s → a ≡ right s → r1 ≡ fnT a → b ≡ left s → l1 ≡ fnT b → r2 ≡ fnT (s .r1)
-    → l2 ≡ fnT (s .l1) → s' ≡ moved s x y r1 l1 r2 l2 → s' ≡ next s
+pub stepped : (s s' : Kcipher2) (x y a b r1 l1 r2 l2 : ℕ) → x ≡ fedA s → y ≡ fedB s → a ≡ sumRight s → r1 ≡ fnT a → b ≡ sumLeft s → l1 ≡ fnT b → r2 ≡ fnT (s .r1)
+    → l2 ≡ fnT (s .l1) → s' ≡ pushed s x y r1 l1 r2 l2 → s' ≡ next s
 unfolding next clocked
 stepped s s' x y a b r1 l1 r2 l2 hx hy ha h1 hb h2 h3 h4 e =
-    let f1 : r1 ≡ fnT (right s) = h1 ∙ ap fnT ha in
-    let f2 : l1 ≡ fnT (left s) = h2 ∙ ap fnT hb in
-    e ∙ (λ i. moved s (hx i) (hy i) (f1 i) (f2 i) (h3 i) (h4 i))
+    let f1 : r1 ≡ fnT (sumRight s) = h1 ∙ ap fnT ha in
+    let f2 : l1 ≡ fnT (sumLeft s) = h2 ∙ ap fnT hb in
+    e ∙ (λ i. pushed s (hx i) (hy i) (f1 i) (f2 i) (h3 i) (h4 i))
 
 -- four units, each in the part after those before it
 module _ (s s1 s2 s3 s4 : Kcipher2) (ks o1 o2 o3 o4 : List ℕ) where

@@ -1,5 +1,5 @@
 // Units of KCipher-2's keystream in a buffer: one, four to a turn, and a buffer full.
-// A caller holds that the buffer has the bytes, and lends the tables that `kcipher2_tables` and `field::tables::column` make.
+// The caller must ensure that the buffer has the bytes, and passes by reference the tables that `kcipher2_tables` and `field::tables::column` make.
 ghost use mathlib.Core.Path.{_≡_};
 ghost use mathlib.Core.List.{_++_};
 ghost use Prim.Native.Nat.{_%_, _≤_};

@@ -12,7 +12,7 @@ use native.Mathlib.Omega.{arith}
 use native.Mathlib.Nat.{zero-add, zero-mod, div-add-mod', mod-self, div-eq-of-lt, div-self, le-of-suc-le-suc, not-suc-le-zero}
 use Rattle.words.specs.Lists.{tab}
 use Rattle.words.proofs.Registers.{listed}
-use Rattle.keystream.specs.Stream.{Gen, stateAt, byteAt, xorFrom, Did, Filled}
+use Rattle.keystream.specs.Stream.{Gen, stateAt, byteAt, xorFrom, PartCrypted, Filled}
 use Rattle.keystream.proofs.Laws.{xorFrom-agree, stateAt-here, stateAt-suc, byteAt-rebase, div-mono}
 use Rattle.keystream.proofs.Parts.{tail-part, put-tail, byteAt-place, state-on, byte-small, aligned, whole-more}
 
@@ -227,7 +227,7 @@ module _ {S : Type 0} (g : Gen S) (u : ℕ) (pos : zero < u) (unit-is : g .unit 
 
 -- text that is XORed with what the buffer holds
 pub did-ready : {S : Type 0} (g : Gen S) {s s' : S} {n used size : ℕ} {text out out' ks : List ℕ} → Ready g s (n + used) size s' ks → used ≤ length text
-    → out' ≡ xorFrom (λ j. getD ks j 0) n (take used text) ++ drop used out → Did g n s used text out s' out'
+    → out' ≡ xorFrom (λ j. getD ks j 0) n (take used text) ++ drop used out → PartCrypted g n s used text out s' out'
 did-ready g {s} {n = n} {used} {text = text} {out} {ks = ks} r fits written =
     let l : length (take used text) ≡ used = length-take-le used text fits in
     record {

@@ -1,14 +1,13 @@
 -- The laws of keystreams, with the unit as a parameter: a text in two parts, a state taken up on the way, the unit that a position is in, and a buffer that is
 -- filled byte by byte or part by part. Steps add up, so a line that starts anew from its state at unit k has the same states and bytes from there on.
 -- Assumes nothing.
-use Prim.Native.Nat.{ℕ, zero, suc, _+_, _-_, _*_, _/_, _%_, _<_, _≤_}
+use Prim.Native.Nat.{ℕ, zero, suc, _+_, _-_, _/_, _%_, _<_, _≤_}
 use mathlib.Core.Path.{_≡_, refl, ap, sym, _∙_}
 use mathlib.Core.List.{List, [], _∷_, _++_, append-assoc}
 use lib.ListN.{length, getD, take, drop, set, length-append, length-drop}
 use lib.Seq.{length-take-le, take-suc, drop-cons, set-at, take-add, drop-drop}
-use lib.Arith.{digits-div, digits-mod}
 use native.Mathlib.Omega.{arith}
-use native.Mathlib.Nat.{div-add-mod', add-zero, add-suc, le-div-iff-mul-le, div-mul-le-self}
+use native.Mathlib.Nat.{add-zero, add-suc, le-div-iff-mul-le, div-mul-le-self}
 use Rattle.words.specs.Word.{_⊕_}
 use Rattle.words.specs.Lists.{iter}
 use Rattle.keystream.specs.Stream.{Gen, stateAt, byteAt, xorFrom}
@@ -52,28 +51,6 @@ iter-add f a (suc b) x = rw add-suc (ap f (iter-add f a b x))
 -- ---- positions: u is any number above 0
 
 module _ (u : ℕ) (pos : zero < u) where
-  -- within the unit of n
-  pub div-within : (n i : ℕ) → n % u + i < u → (n + i) / u ≡ n / u
-  div-within n i h =
-      let e : n + i ≡ n / u * u + (n % u + i) = omega (arith, div-add-mod' n u) in
-      ap (λ (x : ℕ). x / u) e ∙ digits-div (n / u) h
-
-  pub mod-within : (n i : ℕ) → n % u + i < u → (n + i) % u ≡ n % u + i
-  mod-within n i h =
-      let e : n + i ≡ n / u * u + (n % u + i) = omega (arith, div-add-mod' n u) in
-      ap (λ (x : ℕ). x % u) e ∙ digits-mod (n / u) h
-
-  -- at the end of the unit of n
-  pub div-end : (n i : ℕ) → n % u + i ≡ u → (n + i) / u ≡ suc (n / u)
-  div-end n i h =
-      let e : n + i ≡ suc (n / u) * u + 0 = omega (arith, div-add-mod' n u) in
-      ap (λ (x : ℕ). x / u) e ∙ digits-div (suc (n / u)) pos
-
-  pub mod-end : (n i : ℕ) → n % u + i ≡ u → (n + i) % u ≡ 0
-  mod-end n i h =
-      let e : n + i ≡ suc (n / u) * u + 0 = omega (arith, div-add-mod' n u) in
-      ap (λ (x : ℕ). x % u) e ∙ digits-mod (suc (n / u)) pos
-
   pub div-mono : (n k : ℕ) → n ≤ k → n / u ≤ k / u
   div-mono n k h =
       le-div-iff-mul-le pos .1 (omega (arith, div-mul-le-self n u))
@@ -104,14 +81,6 @@ module _ {S : Type 0} (g : Gen S) (pos : zero < g .unit) where
   pub byteAt-rebase : (B : S) (m k j : ℕ) → m ≤ k → k ≤ j / g .unit → byteAt g (stateAt g B m k) k j ≡ byteAt g B m j
   unfolding byteAt
   byteAt-rebase B m k j h q = ap (λ (t : S). getD (g .strm t) (j % g .unit) 0) (stateAt-rebase B m k (j / g .unit) h q)
-
-  -- a byte of the unit that the position n is in
-  pub byteAt-within : (s : S) (n i : ℕ) → n % g .unit + i < g .unit → byteAt g s (n / g .unit) (n + i) ≡ getD (g .strm s) (n % g .unit + i) 0
-  unfolding byteAt
-  byteAt-within s n i h =
-      ap (λ (k : ℕ). getD (g .strm (stateAt g s (n / g .unit) k)) ((n + i) % g .unit) 0) (div-within (g .unit) pos n i h)
-      ∙ ap (λ (t : S). getD (g .strm t) ((n + i) % g .unit) 0) (stateAt-here s (n / g .unit))
-      ∙ ap (λ (k : ℕ). getD (g .strm s) k 0) (mod-within (g .unit) pos n i h)
 
   -- the text crypted from n on is the same, whether the line is taken from its base or from the state at n
   pub xorFrom-rebase : (B : S) (m n : ℕ) (l : List ℕ) → m ≤ n / g .unit →

@@ -10,7 +10,7 @@ use borrow.Rule.Slice.PartMut.{putMid, postOf, post-is}
 use native.Mathlib.Omega.{arith}
 use native.Mathlib.Nat.{add-zero, zero-add, add-mod, zero-mod, div-add-mod', add-mul-div-right, mod-add-mod, add-mod-mod, mod-self, mod-eq-of-lt, div-eq-of-lt, div-self}
 use Rattle.words.specs.Lists.{iter}
-use Rattle.keystream.specs.Stream.{Gen, stateAt, byteAt, xorFrom, Did}
+use Rattle.keystream.specs.Stream.{Gen, stateAt, byteAt, xorFrom, PartCrypted}
 use Rattle.keystream.proofs.Laws.{xorFrom-length, xorFrom-agree, stateAt-here, stateAt-suc, stateAt-rebase, byteAt-rebase, div-mono, fill-part, fill-length}
 
 -- ---- a part that goes to the end
@@ -50,13 +50,6 @@ module _ {S : Type 0} (g : Gen S) (pos : zero < g .unit) where
   pub xorFrom-place : (s : S) (n : ℕ) (l : List ℕ) → xorFrom (byteAt g s (n / g .unit)) n l ≡ xorFrom (byteAt g s 0) (n % g .unit) l
   xorFrom-place s n l = xorFrom-agree (byteAt g s (n / g .unit)) (byteAt g s 0) n (n % g .unit) l (λ i q. byteAt-place s n i)
 
-  -- what a crypt from a place of the unit of s on does, for a line whose position is n
-  pub at-position : (s s' : S) (n k : ℕ) (text out out' : List ℕ)
-      → (s' ≡ stateAt g s 0 ((n % g .unit + k) / g .unit)) × (out' ≡ xorFrom (byteAt g s 0) (n % g .unit) text ++ out)
-      → (s' ≡ stateAt g s (n / g .unit) ((n + k) / g .unit)) × (out' ≡ xorFrom (byteAt g s (n / g .unit)) n text ++ out)
-  at-position s s' n k text out out' h =
-      (h .0 ∙ sym (stateAt-place s n k), h .1 ∙ ap (λ (x : List ℕ). x ++ out) (sym (xorFrom-place s n text)))
-
   -- from the state on the way
   pub state-on : (s : S) (p i : ℕ) → stateAt g (stateAt g s 0 (p / g .unit)) 0 ((p % g .unit + i) / g .unit) ≡ stateAt g s 0 ((p + i) / g .unit)
   state-on s p i =
@@ -71,10 +64,10 @@ module _ {S : Type 0} (g : Gen S) (pos : zero < g .unit) where
 
   -- ---- pieces
 
-  pub did-length : {n k : ℕ} {s s' : S} {text out out' : List ℕ} → k ≤ length text → k ≤ length out → Did g n s k text out s' out' → length out' ≡ length out
+  pub did-length : {n k : ℕ} {s s' : S} {text out out' : List ℕ} → k ≤ length text → k ≤ length out → PartCrypted g n s k text out s' out' → length out' ≡ length out
   did-length {n} {k} {s} {text = text} {out} h q d = ap length (d .out-is) ∙ fill-length (byteAt g s 0) n k text out h q
 
-  pub did-none : {n : ℕ} {s : S} {text out : List ℕ} → n < g .unit → Did g n s 0 text out s out
+  pub did-none : {n : ℕ} {s : S} {text out : List ℕ} → n < g .unit → PartCrypted g n s 0 text out s out
   unfolding xorFrom
   did-none {n} {s} h =
       record {
@@ -101,7 +94,7 @@ module _ {S : Type 0} (g : Gen S) (pos : zero < g .unit) where
         (λ i p. is-unit (n + i) (omega arith) ∙ sym (byte-small s (n + i) (omega arith))))
 
     -- the unit is used up, and the state is the next one
-    pub did-end : {s' : S} → n + k ≡ g .unit → s' ≡ g .next s → Did g n s k text out s' out'
+    pub did-end : {s' : S} → n + k ≡ g .unit → s' ≡ g .next s → PartCrypted g n s k text out s' out'
     did-end h e =
         let one : (n + k) / g .unit ≡ 1 = ap (λ (x : ℕ). x / g .unit) h ∙ div-self pos in
         record {
@@ -112,7 +105,7 @@ module _ {S : Type 0} (g : Gen S) (pos : zero < g .unit) where
         }
 
     -- the text ends within the unit, and the state stays
-    pub did-within : n + k < g .unit → Did g n s k text out s out'
+    pub did-within : n + k < g .unit → PartCrypted g n s k text out s out'
     did-within h =
         record {
           state-is = sym (ap (stateAt g s 0) (div-eq-of-lt h) ∙ stateAt-here g pos s 0);
@@ -124,16 +117,16 @@ module _ {S : Type 0} (g : Gen S) (pos : zero < g .unit) where
     at : (i : ℕ) → i < g .unit → getD ks i 0 ≡ getD (g .strm s) i 0
     at i h = ap (λ (x : List ℕ). getD x i 0) is-unit
 
-    pub part-end : {s' : S} → n + k ≡ g .unit → s' ≡ g .next s → Did g n s k text out s' out'
+    pub part-end : {s' : S} → n + k ≡ g .unit → s' ≡ g .next s → PartCrypted g n s k text out s' out'
     part-end = did-end n k s text out out' (λ j. getD ks j 0) at fits written
 
-    pub part-within : n + k < g .unit → Did g n s k text out s out'
+    pub part-within : n + k < g .unit → PartCrypted g n s k text out s out'
     part-within = did-within n k s text out out' (λ j. getD ks j 0) at fits written
 
   -- a piece, and one more from where it ended, which wrote the buffer's rest
   module _ {n a b from : ℕ} {s s1 s2 : S} {text out o1 o2 : List ℕ} where
-    pub did-more : a + b ≤ length text → a + b ≤ length out → (n + a) % g .unit ≡ from → Did g n s a text out s1 o1
-        → Did g from s1 b (drop a text) (drop a o1) s2 o2 → Did g n s (a + b) text out s2 (take a o1 ++ o2)
+    pub did-more : a + b ≤ length text → a + b ≤ length out → (n + a) % g .unit ≡ from → PartCrypted g n s a text out s1 o1
+        → PartCrypted g from s1 b (drop a text) (drop a o1) s2 o2 → PartCrypted g n s (a + b) text out s2 (take a o1 ++ o2)
     did-more h q e d d' =
         let F = byteAt g s 0 in
         let X = xorFrom F n (take a text) in
@@ -160,12 +153,12 @@ module _ {S : Type 0} (g : Gen S) (pos : zero < g .unit) where
         }
 
     -- the same, with the parts as the code lends them: `&text[a..]`, and `&mut out[a..]`, which comes back
-    pub did-lent : a + b ≤ length text → a + b ≤ length out → (n + a) % g .unit ≡ from → Did g n s a text out s1 o1
-        → Did g from s1 b (take (length text - a) (drop a text)) (take (length o1 - a) (drop a o1)) s2 o2
-        → Did g n s (a + b) text out s2 (putMid a (length o1 - a) o1 o2)
+    pub did-lent : a + b ≤ length text → a + b ≤ length out → (n + a) % g .unit ≡ from → PartCrypted g n s a text out s1 o1
+        → PartCrypted g from s1 b (take (length text - a) (drop a text)) (take (length o1 - a) (drop a o1)) s2 o2
+        → PartCrypted g n s (a + b) text out s2 (putMid a (length o1 - a) o1 o2)
     did-lent h q e d d' =
         let l : length o1 ≡ length out = did-length (omega arith) (omega arith) d in
-        subst (λ (o : List ℕ). Did g n s (a + b) text out s2 o) (sym (put-tail a o1 o2 (omega arith)))
+        subst (λ (o : List ℕ). PartCrypted g n s (a + b) text out s2 o) (sym (put-tail a o1 o2 (omega arith)))
         (did-more h q e d (rw (tail-part a text, tail-part a o1) at d'))
 
 -- ---- the crypt loop, with the unit as the code has it
@@ -182,7 +175,7 @@ pub record Running {S : Type 0} (g : Gen S) (u : ℕ) (s : S) (text out₀ out :
   pub at-most : at ≤ length text
   pub whole : at % u ≡ 0
   pub same-length : length out ≡ length out₀
-  pub did : Did g 0 s at text out₀ cur out
+  pub did : PartCrypted g 0 s at text out₀ cur out
 
 module _ {S : Type 0} (g : Gen S) (u : ℕ) (pos : zero < u) (unit-is : g .unit ≡ u) where
   unit-pos : zero < g .unit
@@ -194,7 +187,7 @@ module _ {S : Type 0} (g : Gen S) (u : ℕ) (pos : zero < u) (unit-is : g .unit 
 
     -- a turn of k bytes, which are whole units
     pub running-turn : {out o' : List ℕ} {cur cur' : S} {at : ℕ} (k : ℕ) → k % u ≡ 0 → Running g u s text out₀ out cur at → k ≤ length text - at
-        → Did g 0 cur k (take (length text - at) (drop at text)) (take (length out - at) (drop at out)) cur' o'
+        → PartCrypted g 0 cur k (take (length text - at) (drop at text)) (take (length out - at) (drop at out)) cur' o'
         → Running g u s text out₀ (putMid at (length out - at) out o') cur' (at + k)
     running-turn {at = at} k h r q d =
         let m = r .at-most in
@@ -208,19 +201,19 @@ module _ {S : Type 0} (g : Gen S) (u : ℕ) (pos : zero < u) (unit-is : g .unit 
 
     -- the rest of the text
     pub running-end : {out o' : List ℕ} {cur cur' : S} {at k : ℕ} → Running g u s text out₀ out cur at → k ≡ length text - at
-        → Did g 0 cur k (take (length text - at) (drop at text)) (take (length out - at) (drop at out)) cur' o'
-        → Did g 0 s (length text) text out₀ cur' (putMid at (length out - at) out o')
+        → PartCrypted g 0 cur k (take (length text - at) (drop at text)) (take (length out - at) (drop at out)) cur' o'
+        → PartCrypted g 0 s (length text) text out₀ cur' (putMid at (length out - at) out o')
     running-end {out} {o'} {cur' = cur'} {at} {k} r e d =
         let m = r .at-most in
         let sum : at + k ≡ length text = omega arith in
-        subst (λ (x : ℕ). Did g 0 s x text out₀ cur' (putMid at (length out - at) out o')) sum
+        subst (λ (x : ℕ). PartCrypted g 0 s x text out₀ cur' (putMid at (length out - at) out o')) sum
         (did-lent g unit-pos (omega arith) (omega arith) (aligned unit-is (0 + at) (ap (λ (x : ℕ). x % u) (zero-add at) ∙ r .whole)) (r .did) d)
 
     -- the rest of a begun unit, as far as the text goes, and then the rest of the text
     module _ {n head : ℕ} {s1 s2 : S} {o1 o2 : List ℕ} (n-most : n < u) (head-is : head ≡ min ((u - n) % u) (length text))
-        (first : Did g n s head text out₀ s1 o1) where
-      begun-by : (k : ℕ) → k ≡ length text - head → Did g 0 s1 k (take (length text - head) (drop head text)) (take (length o1 - head) (drop head o1)) s2 o2
-          → Did g n s (head + k) text out₀ s2 (putMid head (length o1 - head) o1 o2)
+        (first : PartCrypted g n s head text out₀ s1 o1) where
+      begun-by : (k : ℕ) → k ≡ length text - head → PartCrypted g 0 s1 k (take (length text - head) (drop head text)) (take (length o1 - head) (drop head o1)) s2 o2
+          → PartCrypted g n s (head + k) text out₀ s2 (putMid head (length o1 - head) o1 o2)
       unfolding xorFrom
       begun-by zero e d =
           let l : length o1 ≡ length out₀ = did-length g unit-pos (omega arith) (omega arith) first in
@@ -234,14 +227,14 @@ module _ {S : Type 0} (g : Gen S) (u : ℕ) (pos : zero < u) (unit-is : g .unit 
           did-lent g unit-pos (omega arith) (omega arith)
           (aligned unit-is (n + head) (ap (λ (x : ℕ). (n + x) % u) full ∙ add-mod-mod n (u - n) u ∙ ap (λ (x : ℕ). x % u) end ∙ mod-self u)) first d
 
-      pub begun : {k : ℕ} → k ≡ length text - head → Did g 0 s1 k (take (length text - head) (drop head text)) (take (length o1 - head) (drop head o1)) s2 o2
-          → Did g n s (length text) text out₀ s2 (putMid head (length o1 - head) o1 o2)
+      pub begun : {k : ℕ} → k ≡ length text - head → PartCrypted g 0 s1 k (take (length text - head) (drop head text)) (take (length o1 - head) (drop head o1)) s2 o2
+          → PartCrypted g n s (length text) text out₀ s2 (putMid head (length o1 - head) o1 o2)
       begun {k} e d =
           let sum : head + k ≡ length text = omega arith in
-          subst (λ (x : ℕ). Did g n s x text out₀ s2 (putMid head (length o1 - head) o1 o2)) sum (begun-by k e d)
+          subst (λ (x : ℕ). PartCrypted g n s x text out₀ s2 (putMid head (length o1 - head) o1 o2)) sum (begun-by k e d)
 
     -- all of the text, as two equations
-    pub crypted : {n : ℕ} {s' : S} {out : List ℕ} → Did g n s (length text) text out₀ s' out
+    pub crypted : {n : ℕ} {s' : S} {out : List ℕ} → PartCrypted g n s (length text) text out₀ s' out
         → (s' ≡ stateAt g s 0 ((n + length text) / u)) × (out ≡ xorFrom (byteAt g s 0) n text ++ drop (length text) out₀)
     crypted {n} d = (
       d .state-is ∙ ap (λ (v : ℕ). stateAt g s 0 ((n + length text) / v)) unit-is,
@@ -282,9 +275,9 @@ backFrom n l part = putMid n (length l - n) l part
 
 module _ {S : Type 0} (g : Gen S) (u : ℕ) (pos : zero < u) (unit-is : g .unit ≡ u) {s s1 s2 s3 : S} {text out o1 o2 o3 : List ℕ}
     (in-text : u + u + u + u ≤ length text) (in-out : u + u + u + u ≤ length out)
-    (d1 : Did g 0 s u text out s1 o1)
-    (d2 : Did g 0 s1 u (lentFrom u text) (lentFrom u o1) s2 o2)
-    (d3 : Did g 0 s2 u (lentFrom (u + u) text) (lentFrom (u + u) (backFrom u o1 o2)) s3 o3) where
+    (d1 : PartCrypted g 0 s u text out s1 o1)
+    (d2 : PartCrypted g 0 s1 u (lentFrom u text) (lentFrom u o1) s2 o2)
+    (d3 : PartCrypted g 0 s2 u (lentFrom (u + u) text) (lentFrom (u + u) (backFrom u o1 o2)) s3 o3) where
   positive : zero < g .unit
   positive = omega arith
 
@@ -295,7 +288,7 @@ module _ {S : Type 0} (g : Gen S) (u : ℕ) (pos : zero < u) (unit-is : g .unit 
   two-units : (u + u) % u ≡ 0
   two-units = whole-more u u u (mod-self u) (mod-self u)
 
-  three : Did g 0 s (u + u + u) text out s3 (backFrom (u + u) (backFrom u o1 o2) o3)
+  three : PartCrypted g 0 s (u + u + u) text out s3 (backFrom (u + u) (backFrom u o1 o2) o3)
   three =
       did-lent g positive (omega arith) (omega arith) (whole-at (u + u) two-units)
       (did-lent g positive (omega arith) (omega arith) (whole-at u (mod-self u)) d1 d2) d3
@@ -308,8 +301,8 @@ module _ {S : Type 0} (g : Gen S) (u : ℕ) (pos : zero < u) (unit-is : g .unit 
   fourth = (omega (arith, tail-length (u + u + u) text), omega (arith, tail-length (u + u + u) (backFrom (u + u) (backFrom u o1 o2) o3), three-length))
 
   module _ {s4 : S} {o4 : List ℕ}
-      (d4 : Did g 0 s3 u (lentFrom (u + u + u) text) (lentFrom (u + u + u) (backFrom (u + u) (backFrom u o1 o2) o3)) s4 o4) where
-    pub did-four : Did g 0 s (u + u + u + u) text out s4 (backFrom (u + u + u) (backFrom (u + u) (backFrom u o1 o2) o3) o4)
+      (d4 : PartCrypted g 0 s3 u (lentFrom (u + u + u) text) (lentFrom (u + u + u) (backFrom (u + u) (backFrom u o1 o2) o3)) s4 o4) where
+    pub did-four : PartCrypted g 0 s (u + u + u + u) text out s4 (backFrom (u + u + u) (backFrom (u + u) (backFrom u o1 o2) o3) o4)
     did-four = did-lent g positive in-text in-out (whole-at (u + u + u) (whole-more u (u + u) u two-units (mod-self u))) three d4
 
     pub four-length : length (backFrom (u + u + u) (backFrom (u + u) (backFrom u o1 o2) o3) o4) ≡ length out

@@ -4,7 +4,7 @@
 use mathlib.Core.Path.{_≡_}
 use mathlib.Core.List.{List, [], _∷_, _++_}
 use Prim.Native.Nat.{ℕ, suc, _+_, _-_, _/_, _%_}
-use lib.ListN.{getD, take, drop}
+use lib.ListN.{length, getD, take, drop}
 use Rattle.words.specs.Word.{_⊕_}
 use Rattle.words.specs.Lists.{tab, iter}
 
@@ -27,9 +27,14 @@ unfoldable pub xorFrom : (ℕ → ℕ) → ℕ → List ℕ → List ℕ
 xorFrom f n [] = []
 xorFrom f n (d ∷ ds) = d ⊕ f n ∷ xorFrom f (suc n) ds
 
+-- What a crypt of a whole text leaves: the text, XORed from byte n of the unit of s on, stands at the start of out, and the state is that of the unit in which the next byte lies.
+abbrev pub TextCrypted : {S : Type 0} → Gen S → (n : ℕ) → S → (text out : List ℕ) → S → List ℕ → Type 0
+TextCrypted g n s text out s' out' =
+    (s' ≡ stateAt g s 0 ((n + length text) / g .unit)) × (out' ≡ xorFrom (byteAt g s 0) n text ++ drop (length text) out)
+
 -- What a part of a crypt did: k bytes of text, from byte n of the unit of s on, went to the start of out, and the state is that of the unit in which the
 -- next byte lies.
-pub record Did {S : Type 0} (g : Gen S) (n : ℕ) (s : S) (k : ℕ) (text out : List ℕ) (s' : S) (out' : List ℕ) : Type 0 where
+pub record PartCrypted {S : Type 0} (g : Gen S) (n : ℕ) (s : S) (k : ℕ) (text out : List ℕ) (s' : S) (out' : List ℕ) : Type 0 where
   pub state-is : s' ≡ stateAt g s 0 ((n + k) / g .unit)
   pub out-is : out' ≡ xorFrom (byteAt g s 0) n (take k text) ++ drop k out
 

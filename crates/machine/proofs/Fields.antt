@@ -12,7 +12,7 @@ use Rattle.ciphers.specs.States.{stateWords}
 use Rattle.words.specs.Lists.{All, more as more-words, Word, tab}
 use Rattle.words.specs.Word.{word}
 use Rattle.words.specs.Strings.{wordAt, bytesOf}
-use Rattle.machine.specs.Fields.{field, numberAt, written, fieldsAt, spelt}
+use Rattle.machine.specs.Fields.{fieldBytes, numberAt, inFields, fieldsAt, spelt}
 use Rattle.machine.specs.Machine.{Line, imageWidths, imageOf, fieldsLine, imageLine, imageNumber}
 
 -- ---- any widths
@@ -22,33 +22,33 @@ pub data Fits : List ℕ → List ℕ → Type 0 where
   none : Fits [] []
   more : {w x : ℕ} {ws xs : List ℕ} → x < 2 ^ (8 * w) → Fits ws xs → Fits (w ∷ ws) (x ∷ xs)
 
-field-length : (w x : ℕ) → length (field w x) ≡ w
+field-length : (w x : ℕ) → length (fieldBytes w x) ≡ w
 field-length zero x = refl
 field-length (suc w) x = ap suc (field-length w x)
 
 -- a field behind p is read as far as it can hold its number
-number-in : (w x : ℕ) (p s : List ℕ) (i : ℕ) → length p ≡ i → numberAt w (p ++ (field w x ++ s)) i ≡ x % 2 ^ (8 * w)
+number-in : (w x : ℕ) (p s : List ℕ) (i : ℕ) → length p ≡ i → numberAt w (p ++ (fieldBytes w x ++ s)) i ≡ x % 2 ^ (8 * w)
 number-in zero x p s i e = omega arith
 number-in (suc w) x p s i e =
     let d : ℕ = x / 2 ^ (8 * w) % 2 ^ 8 in
-    let here : getD (p ++ (d ∷ (field w x ++ s))) i 0 ≡ d =
-    ap (λ (k : ℕ). getD (p ++ (d ∷ (field w x ++ s))) k 0) (sym (add-zero (length p) ∙ e)) ∙ getD-append-add p (d ∷ (field w x ++ s)) 0 0 in
-    let rest : numberAt w (p ++ (d ∷ (field w x ++ s))) (i + 1) ≡ x % 2 ^ (8 * w) =
-    ap (λ (t : List ℕ). numberAt w t (i + 1)) (sym (append-assoc p (d ∷ []) (field w x ++ s)))
+    let here : getD (p ++ (d ∷ (fieldBytes w x ++ s))) i 0 ≡ d =
+    ap (λ (k : ℕ). getD (p ++ (d ∷ (fieldBytes w x ++ s))) k 0) (sym (add-zero (length p) ∙ e)) ∙ getD-append-add p (d ∷ (fieldBytes w x ++ s)) 0 0 in
+    let rest : numberAt w (p ++ (d ∷ (fieldBytes w x ++ s))) (i + 1) ≡ x % 2 ^ (8 * w) =
+    ap (λ (t : List ℕ). numberAt w t (i + 1)) (sym (append-assoc p (d ∷ []) (fieldBytes w x ++ s)))
     ∙ number-in w x (p ++ (d ∷ [])) s (i + 1) (length-append p (d ∷ []) ∙ ap (λ (k : ℕ). k + 1) e) in
     ap₂ (λ (a b : ℕ). a * 2 ^ (8 * w) + b) here rest
     ∙ sym (mod-pow-add x 8 (8 * w))
     ∙ ap (λ (k : ℕ). x % 2 ^ k) (let q : 8 + 8 * w ≡ 8 * suc w = omega arith in q)
 
-fields-in : {ws xs : List ℕ} → Fits ws xs → (p : List ℕ) (i : ℕ) → length p ≡ i → fieldsAt ws (p ++ written ws xs) i ≡ xs
+fields-in : {ws xs : List ℕ} → Fits ws xs → (p : List ℕ) (i : ℕ) → length p ≡ i → fieldsAt ws (p ++ inFields ws xs) i ≡ xs
 fields-in none p i e = refl
 fields-in (more {w} {x} {ws} {xs} h f) p i e =
-    ap₂ _∷_ (number-in w x p (written ws xs) i e ∙ mod-eq-of-lt h)
-    (ap (λ (t : List ℕ). fieldsAt ws t (i + w)) (sym (append-assoc p (field w x) (written ws xs)))
-    ∙ fields-in f (p ++ field w x) (i + w) (length-append p (field w x) ∙ ap₂ _+_ e (field-length w x)))
+    ap₂ _∷_ (number-in w x p (inFields ws xs) i e ∙ mod-eq-of-lt h)
+    (ap (λ (t : List ℕ). fieldsAt ws t (i + w)) (sym (append-assoc p (fieldBytes w x) (inFields ws xs)))
+    ∙ fields-in f (p ++ fieldBytes w x) (i + w) (length-append p (fieldBytes w x) ∙ ap₂ _+_ e (field-length w x)))
 
 -- what is written is read back
-pub fields-back : {ws xs : List ℕ} → Fits ws xs → fieldsAt ws (written ws xs) 0 ≡ xs
+pub fields-back : {ws xs : List ℕ} → Fits ws xs → fieldsAt ws (inFields ws xs) 0 ≡ xs
 fields-back f = fields-in f [] 0 refl
 
 -- ---- words
@@ -57,7 +57,7 @@ four : (a b c d : ℕ) → a * 2 ^ 24 + (b * 2 ^ 16 + (c * 2 ^ 8 + (d * 2 ^ 0 + 
 four a b c d = omega arith
 
 -- a field of four bytes is a word
-pub word-field : (x : ℕ) → field 4 x ≡ bytesOf x
+pub word-field : (x : ℕ) → fieldBytes 4 x ≡ bytesOf x
 unfolding bytesOf
 word-field x = let e : x / 2 ^ 0 % 2 ^ 8 ≡ x % 2 ^ 8 = omega arith in rw e
 
@@ -70,7 +70,7 @@ word-number s i =
     ∙ ap₂ (λ (a b : ℕ). word (getD s i 0) (getD s (i + 1) 0) (getD s a 0) (getD s b 0)) e f
 
 -- words, each in its field
-pub words-written : (n : ℕ) (xs : List ℕ) → length xs ≡ n → written (replicate n 4) xs ≡ spelt xs
+pub words-written : (n : ℕ) (xs : List ℕ) → length xs ≡ n → inFields (replicate n 4) xs ≡ spelt xs
 words-written zero [] e = refl
 words-written zero (x ∷ xs) e = absurd (omega arith)
 words-written (suc n) [] e = absurd (omega arith)
@@ -90,7 +90,7 @@ words-read (suc n) s i =
 high : (x k : ℕ) → x / 2 ^ 32 / 2 ^ k % 2 ^ 8 ≡ x / (2 ^ 32 * 2 ^ k) % 2 ^ 8
 high x k = ap (λ (y : ℕ). y % 2 ^ 8) (div-div-eq-div-mul x (2 ^ 32) (2 ^ k))
 
-pub long-field : (x : ℕ) → field 8 x ≡ bytesOf (x / 2 ^ 32) ++ bytesOf (x % 2 ^ 32)
+pub long-field : (x : ℕ) → fieldBytes 8 x ≡ bytesOf (x / 2 ^ 32) ++ bytesOf (x % 2 ^ 32)
 unfolding bytesOf
 long-field x =
     let a = high x 24 in

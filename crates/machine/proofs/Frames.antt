@@ -30,29 +30,29 @@ base-at (l ∷ ls) (suc i) = base-at ls i
 
 module _ (m : Machine) (a : Call) (i n : ℕ) where
   abbrev Accepts : Effect → Type 0
-  Accepts e = perform m (a .text) e .outcome .code ≡ 0 → perform m (a .text) e .outcome .written ≡ enciphered (lineAt m i) (take n (a .text))
+  Accepts e = perform m (a .text) e .outcome .code ≡ 0 → perform m (a .text) e .outcome .output ≡ enciphered (lineAt m i) (take n (a .text))
 
   crypted : Accepts (decided (Crypt i n) (public m) a)
   crypted =
       decided-by Accepts (λ k z e. absurd (eqb-false k 0 (not-zero k z) e)) (Crypt i n) (public m) a
       (λ p e. refl)
 
-  stepped : decodeOf (a .command) ≡ Run (Crypt i n) → step m a .outcome .code ≡ 0 → step m a .outcome .written ≡ enciphered (lineAt m i) (take n (a .text))
+  stepped : decodeOf (a .command) ≡ Run (Crypt i n) → step m a .outcome .code ≡ 0 → step m a .outcome .output ≡ enciphered (lineAt m i) (take n (a .text))
   unfolding step decide
   stepped e = rw e crypted
 
-wrote : (c : Seen) (a : Call) (i n : ℕ) → Frame c a i n → cardStep c a .outcome .written ≡ enciphered (lineAt (back c) i) (take n (a .text))
+wrote : (c : Seen) (a : Call) (i n : ℕ) → Frame c a i n → cardStep c a .outcome .output ≡ enciphered (lineAt (back c) i) (take n (a .text))
 wrote c a i n f =
-    of-card (λ s. s .outcome .code ≡ 0 → s .outcome .written ≡ enciphered (lineAt (back c) i) (take n (a .text))) c a (λ e. absurd (omega arith)) (stepped (back c) a i n (f .read)) (f .accepted)
+    of-card (λ s. s .outcome .code ≡ 0 → s .outcome .output ≡ enciphered (lineAt (back c) i) (take n (a .text))) c a (λ e. absurd (omega arith)) (stepped (back c) a i n (f .read)) (f .accepted)
 
 -- What a frame writes.
-pub frame-is : (c : Seen) (a : Call) (i n : ℕ) → Frame c a i n → cardStep c a .outcome .written ≡ enciphered (based (lineOn c i)) (take n (a .text))
+pub frame-is : (c : Seen) (a : Call) (i n : ℕ) → Frame c a i n → cardStep c a .outcome .output ≡ enciphered (based (lineOn c i)) (take n (a .text))
 frame-is c a i n f = wrote c a i n f ∙ ap (λ (l : MLine). enciphered l (take n (a .text))) (base-at (c .lines) i)
 
 -- Two crypts, on whatever cards and lines, whose lines are seen alike (mode, cipher, position and state, as after an open with the same key and IV and as many bytes, or after a resume): the
 -- second, of what the first wrote, writes the first's data.
-pub frames-back : (c d : Seen) (a b : Call) (i j n : ℕ) → Frame c a i n → Frame d b j n → lineOn d j ≡ lineOn c i → take n (b .text) ≡ cardStep c a .outcome .written →
-    cardStep d b .outcome .written ≡ take n (a .text)
+pub frames-back : (c d : Seen) (a b : Call) (i j n : ℕ) → Frame c a i n → Frame d b j n → lineOn d j ≡ lineOn c i → take n (b .text) ≡ cardStep c a .outcome .output →
+    cardStep d b .outcome .output ≡ take n (a .text)
 frames-back c d a b i j n f g e t =
     frame-is d b j n g
     ∙ ap₂ (λ (l : Line) (x : List ℕ). enciphered (based l) x) e (t ∙ frame-is c a i n f)

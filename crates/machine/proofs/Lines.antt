@@ -17,7 +17,7 @@ use Rattle.keystream.specs.Stream.{stateAt}
 use Rattle.keystream.proofs.Laws.{stateAt-here, stateAt-rebase, xorFrom-rebase, div-mono}
 use Rattle.ciphers.specs.Table.{cipherAt, isCipher, mugi}
 use Rattle.ciphers.specs.Fit.{Fit}
-use Rattle.ciphers.proofs.Tests.{both-left, both-right, both-true}
+use Rattle.words.proofs.Tests.{both-left, both-right, both-true}
 use Rattle.ciphers.proofs.Sound.{sound}
 use Rattle.ciphers.proofs.States.{all-take}
 use Rattle.machine.specs.Machine.{Line, MLine, idle, idleLine, genOf, genAt, unitAt, stateOf, byteOf, shown, based, enciphered, moved, opened, imageLine, imageIn, imageLength, limit, openOk, idleOk, lineOk, allOk}

@@ -14,7 +14,7 @@ use Rattle.words.specs.Lists.{iter}
 use Rattle.words.specs.Tests.{pick}
 use Rattle.keystream.specs.Stream.{stateAt}
 use Rattle.ciphers.specs.Table.{cipherAt}
-use Rattle.ciphers.proofs.Tests.{both-right}
+use Rattle.words.proofs.Tests.{both-right}
 use Rattle.machine.specs.Machine.{Line, MLine, Machine, Seen, lineAt, idle, genOf, unitAt, stateOf, moved, shown, based, opened, limit, lastNumber, imageOf, imageLine, imageNumber, Call, Effect, refuse, put, crypt, park, resume, public, decide, perform, step, seen, shows, freshMachine, freshCard}
 use Rattle.machine.specs.Parks.{Parks, freshParks, noMore, numberNow, parked, holds, taken}
 use Rattle.machine.specs.Logs.{Made, madeOf, machineRun, callsOf, cardAfter, lineOn, Did, did-nothing, did-open, did-crypt, did-park, did-resume, did-close, did, Log, begun, joined, noted, logAfter, logOf, standing}
@@ -339,12 +339,12 @@ module _ (xs : List Made) (is : xs ≡ machineRun freshMachine (callsOf xs)) (by
       let m = machineAfter freshMachine before in
       let k = place s in
       let f : step m (x .call) .outcome .code ≡ 0 → getD (x .call .command) 1 0 ≡ i → ⊥ =
-      λ z n. apart (record { accepted = ap (λ (y : Made). y .code) (k .run) ∙ z; line = n }) in
+      λ z n. apart (record { accepted = ap (λ (y : Made). y .code) (k .run) ∙ z; line-is = n }) in
       record {
-        line =
+        line-is =
             line-after before x k i ∙ ap shown (other-line m (x .call) i _ (did x) (k .did-is) f)
             ∙ sym (ap (λ (c : Seen). lineOn c i) (k .at .card) ∙ seen-at m i);
-        log = log-append i (begun idle) before (x ∷ []) ∙ other-log m (x .call) i _ (did x) (k .did-is) f (logOf i before);
+        log-is = log-append i (begun idle) before (x ∷ []) ∙ other-log m (x .call) i _ (did x) (k .did-is) f (logOf i before);
       }
 
   pub machine-one-stream : OneStream xs
@@ -361,13 +361,13 @@ module _ (xs : List Made) (is : xs ≡ machineRun freshMachine (callsOf xs)) (by
       let here : lineOn (cardAfter freshCard before) i ≡ shown (lineAt m i) = ap (λ (c : Seen). lineOn c i) (k .at .card) ∙ seen-at m i in
       let l : logOf i (before ++ (x ∷ [])) ≡ joined (logOf i before) input output = log-last i before x dx ∙ on-its-line i _ _ in
       record {
-        from = ap (λ (y : Line). y .n) here ∙ held-streamed (lineAt m i) (logOf i before) (k .at .held i) .position;
-        to =
+        begins = ap (λ (y : Line). y .n) here ∙ held-streamed (lineAt m i) (logOf i before) (k .at .held i) .position;
+        ends =
             ap (λ (y : Line). y .n) (line-after before x k i)
             ∙ ap (λ (y : MLine). y .pos) (told-at s (did-crypt i input output) dx)
             ∙ ap (λ (y : Line). y .n + length input) (sym here);
         since = ap (λ (g : Log). g .start) l;
-        taken = ap (λ (g : Log). g .ins) l;
+        inputs = ap (λ (g : Log). g .ins) l;
       }
 
   within-at : (i : ℕ) → lineOn (cardAfter freshCard xs) i .n ≤ limit

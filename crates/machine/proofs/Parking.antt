@@ -98,7 +98,7 @@ module _ (xs : List Made) (is : xs ≡ machineRun freshMachine (callsOf xs)) (by
       let k = place xs is bytes s in
       let free : lineAt m j .mode ≡ 0 = ap (λ (y : Line). y .mode) (sym (seen-at m j)) ∙ ap (λ (c : Seen). lineOn c j .mode) (sym (k .at .card)) ∙ b .idle-line in
       ap (λ (y : Made). y .code) (k .run)
-      ∙ resume-code m (x .call) j (b .read) free (ap (λ (y : List ℕ). openOk (imageLine y)) (b .image-is) ∙ ok) h (ap (λ (y : List ℕ). holds (m .parks) (imageNumber y)) (b .image-is) ∙ held)
+      ∙ resume-code m (x .call) j (b .read-as) free (ap (λ (y : List ℕ). openOk (imageLine y)) (b .image-is) ∙ ok) h (ap (λ (y : List ℕ). holds (m .parks) (imageNumber y)) (b .image-is) ∙ held)
 
   accepted-at : {before sofar : List Made} {p x : Made} → Stands sofar x xs → (t : Stands before p sofar) → (i j : ℕ) (image : List ℕ) → did p ≡ did-park i image →
       AllLeave i (imageNumber image) (t .after) → Brings j image sofar x → x .code ≡ 0

@@ -12,7 +12,7 @@ use lib.Seq.{getD-set-same, getD-set-other}
 use borrow.Author.Tests.{eqb-true, eqb-false, eq-eqb, ne-eqb, le-leb, leb-true, leb-false, not-true}
 use Rattle.words.specs.Tests.{both, pick}
 use Rattle.ciphers.specs.Table.{allOf}
-use Rattle.ciphers.proofs.Tests.{both-left, both-right, both-true}
+use Rattle.words.proofs.Tests.{both-left, both-right, both-true}
 use Rattle.command.specs.Rows.{either, among}
 use Rattle.machine.specs.Parks.{Parks, freshParks, lastPark, noMore, numberNow, parked, holds, clear, taken, onceEach, parksOk}
 

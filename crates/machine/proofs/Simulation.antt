@@ -12,7 +12,7 @@ use Rattle.words.specs.Tests.{pick}
 use Rattle.words.proofs.Ranges.{all-drop}
 use Rattle.ciphers.specs.Table.{isCipher, cipherAt, mugi}
 use Rattle.ciphers.proofs.States.{all-take}
-use Rattle.ciphers.proofs.Tests.{both-true}
+use Rattle.words.proofs.Tests.{both-true}
 use Rattle.command.specs.declared.Cipher.{Cipher}
 use Rattle.command.specs.declared.Cipher.the-variants.{Zuc, Rabbit, Snow128, Snow256, Kcipher2, Mugi}
 use Rattle.command.specs.declared.Command.{Command}

@@ -47,8 +47,8 @@ on-hold xs s i (x ∷ quiet) before after e a =
     record {
       line =
           ap (λ (l : List Made). lineOn (cardAfter freshCard l) i) (sym p) ∙ h .line
-          ∙ ap (λ (c : Seen). lineOn c i) (card-last freshCard before x) ∙ k .line;
-      log = ap (logOf i) (sym p) ∙ h .log ∙ k .log;
+          ∙ ap (λ (c : Seen). lineOn c i) (card-last freshCard before x) ∙ k .line-is;
+      log = ap (logOf i) (sym p) ∙ h .log ∙ k .log-is;
     }
 
 -- the card after a call and then those of quiet

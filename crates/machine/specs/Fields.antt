@@ -6,9 +6,9 @@ use lib.ListN.{getD, drop}
 use Rattle.words.specs.Strings.{bytesOf}
 
 -- a number in a field of w bytes
-abbrev pub field : ℕ → ℕ → List ℕ
-field zero x = []
-field (suc w) x = x / 2 ^ (8 * w) % 2 ^ 8 ∷ field w x
+abbrev pub fieldBytes : ℕ → ℕ → List ℕ
+fieldBytes zero x = []
+fieldBytes (suc w) x = x / 2 ^ (8 * w) % 2 ^ 8 ∷ fieldBytes w x
 
 -- the number in the w bytes from byte i on
 abbrev pub numberAt : ℕ → List ℕ → ℕ → ℕ
@@ -16,9 +16,9 @@ numberAt zero s i = 0
 numberAt (suc w) s i = getD s i 0 * 2 ^ (8 * w) + numberAt w s (i + 1)
 
 -- numbers in fields of these widths; where there is none, 0
-abbrev pub written : List ℕ → List ℕ → List ℕ
-written [] xs = []
-written (w ∷ ws) xs = field w (getD xs 0 0) ++ written ws (drop 1 xs)
+abbrev pub inFields : List ℕ → List ℕ → List ℕ
+inFields [] xs = []
+inFields (w ∷ ws) xs = fieldBytes w (getD xs 0 0) ++ inFields ws (drop 1 xs)
 
 -- the numbers in the fields of these widths, from byte i on
 abbrev pub fieldsAt : List ℕ → List ℕ → ℕ → List ℕ

@@ -30,8 +30,8 @@ madeOf a s =
       code = s .outcome .code;
       used-command = s .outcome .used-command;
       used-data = s .outcome .used-data;
-      written = length (s .outcome .written);
-      out = s .outcome .written ++ drop (length (s .outcome .written)) (a .out);
+      written = length (s .outcome .output);
+      out = s .outcome .output ++ drop (length (s .outcome .output)) (a .out);
       card = s .card;
     }
 

@@ -7,8 +7,8 @@ use mathlib.Core.List.{List, [], _∷_, map}
 use Prim.Native.Nat.{ℕ, zero, suc, _+_, _*_, _/_, _%_, _^_}
 use lib.Dec.{ltb, leb, eqb}
 use lib.ListN.{length, getD, take, drop, set, replicate}
-pub use Rattle.card_sizes.specs.Sizes.{imageLength, lineCount}
-use Rattle.card_sizes.specs.Sizes.{keyLength, ivLength, fullTray, ownKey, resumeImage}
+pub use Rattle.card_sizes.specs.Sizes.{imageLength, lineCount, limit}
+use Rattle.card_sizes.specs.Sizes.{keyLength, ivLength, ownKey, resumeImage}
 use Rattle.words.specs.Tests.{both, pick}
 use Rattle.keystream.specs.Stream.{Gen, stateAt, byteAt, xorFrom}
 use Rattle.ciphers.specs.States.{stateWords}
@@ -17,10 +17,10 @@ use Rattle.command.specs.declared.Command.{Command}
 use Rattle.command.specs.declared.Command.the-variants.{Tray, Own, Crypt, Park, Resume, Close}
 use Rattle.command.specs.declared.Decoded.{Decoded}
 use Rattle.command.specs.declared.Decoded.the-variants.{Run, Refused}
-pub use Rattle.command.specs.Rows.{lastNumber}
+pub use Rattle.command.specs.Rows.{lastNumber, trayOk}
 use Rattle.command.specs.Rows.{Row, _when_, unless, among}
 use Rattle.command.specs.Decode.{decodeOf, Operands, operandsOf, sizeOf}
-use Rattle.machine.specs.Fields.{written, fieldsAt}
+use Rattle.machine.specs.Fields.{inFields, fieldsAt}
 use Rattle.machine.specs.Parks.{Parks, freshParks, noMore, numberNow, parked, holds, taken, parksOk}
 
 -- ---- lines
@@ -91,7 +91,7 @@ imageWidths = 1 ∷ 8 ∷ 4 ∷ replicate stateWords 4
 
 -- the image that the park of number k makes of a line
 unfoldable pub imageOf : ℕ → Line → List ℕ
-imageOf k l = written imageWidths (l .cipher ∷ l .n ∷ k ∷ l .words)
+imageOf k l = inFields imageWidths (l .cipher ∷ l .n ∷ k ∷ l .words)
 
 -- the open line that an image holds
 abbrev pub fieldsLine : List ℕ → Line
@@ -109,10 +109,6 @@ abbrev pub imageIn : List ℕ → List ℕ
 imageIn command = take imageLength (drop resumeImage command)
 
 -- ---- what numbers 8 and 255 ask
-
--- document 01's 2^36
-abbrev pub limit : ℕ
-limit = 2 ^ 36
 
 -- an image, or an open line: its cipher, n, and its state with the zeros after it
 unfoldable pub openOk : Line → Bool
@@ -136,11 +132,11 @@ pub record Call : Type 0 where
   pub text : List ℕ
   pub out : List ℕ
 
-pub record Outcome : Type 0 where
+pub record Reply : Type 0 where
   pub code : ℕ
   pub used-command : ℕ
   pub used-data : ℕ
-  pub written : List ℕ
+  pub output : List ℕ
 
 -- ---- the machine, what is seen of it, and what is public of it
 
@@ -232,11 +228,11 @@ crypts o = eqb (o .kind) 3
 -- a key, a part of the tray or a part of the command, and an IV, none of a command that has none; the cipher's own bytes stand first, zeros after
 abbrev pub keyField : Operands → Call → List ℕ
 keyField o a =
-    pick (fromTray o) (take keyLength (drop (keyLength * o .key) (a .tray)))
+    pick (fromTray o) (take keyLength (drop (keyLength * o .keyNumber) (a .tray)))
     (pick (opens o) (take keyLength (drop ownKey (a .command))) [])
 
 abbrev pub ivField : Operands → Call → List ℕ
-ivField o a = pick (opens o) (take ivLength (drop (o .iv) (a .command))) []
+ivField o a = pick (opens o) (take ivLength (drop (o .ivAt) (a .command))) []
 
 abbrev pub keyIn : Operands → Call → List ℕ
 keyIn o a = take (cipherAt (o .cipher) .key) (keyField o a)
@@ -251,10 +247,6 @@ spareUsed c key iv = not (both (allZero (drop (cipherAt c .key) key)) (allZero (
 -- the key is all zero in the cipher's own length
 unfoldable pub blankKey : ℕ → List ℕ → Bool
 blankKey c key = allZero (take (cipherAt c .key) key)
-
--- a tray length that is a multiple of 32 and at most 8,192
-abbrev pub trayOk : ℕ → Bool
-trayOk n = both (eqb (n % keyLength) 0) (leb n fullTray)
 
 -- ---- what is to be done
 
@@ -285,9 +277,9 @@ effectOf (Close i) a = put i idle (sizeOf (Close i))
 -- All that a decision reads of a call: three lengths, whether a byte of the key or the IV beyond the cipher's length is not 0, whether the key is all zero within it, and the image that
 -- a resume brings; no byte of data, and nothing else of a key or an IV within the cipher's lengths.
 pub record Facts : Type 0 where
-  pub tray : ℕ
-  pub text : ℕ
-  pub out : ℕ
+  pub trayCount : ℕ
+  pub textCount : ℕ
+  pub outCount : ℕ
   pub spare : Bool
   pub blank : Bool
   pub image : List ℕ
@@ -295,9 +287,9 @@ pub record Facts : Type 0 where
 abbrev pub factsOf : Operands → Call → Facts
 factsOf o a =
     record {
-      tray = length (a .tray);
-      text = length (a .text);
-      out = length (a .out);
+      trayCount = length (a .tray);
+      textCount = length (a .text);
+      outCount = length (a .out);
       spare = spareUsed (o .cipher) (keyField o a) (ivField o a);
       blank = blankKey (o .cipher) (keyField o a);
       image = pick (eqb (o .kind) 5) (imageIn (a .command)) [];
@@ -313,9 +305,9 @@ refusals o v f =
     -- no park is left
     ∷ (15 when both (eqb (o .kind) 4) (noMore (v .parks)))
     -- tray length not a multiple of 32, or over 8,192
-    ∷ (9 when both (fromTray o) (not (trayOk (f .tray))))
+    ∷ (9 when both (fromTray o) (not (trayOk (f .trayCount))))
     -- key number not in it
-    ∷ (10 when both (fromTray o) (ltb (f .tray) (keyLength * o .key + keyLength)))
+    ∷ (10 when both (fromTray o) (ltb (f .trayCount) (keyLength * o .keyNumber + keyLength)))
     -- a key or IV byte beyond the cipher's length is not 0
     ∷ (7 when both (opens o) (f .spare))
     -- key all zero
@@ -327,9 +319,9 @@ refusals o v f =
     -- n + count over 2^36
     ∷ (13 when both (crypts o) (ltb limit (viewAt v (o .line) .pos + o .count)))
     -- data shorter than count
-    ∷ (11 when both (crypts o) (ltb (f .text) (o .count)))
+    ∷ (11 when both (crypts o) (ltb (f .textCount) (o .count)))
     -- out shorter than count, or than an image
-    ∷ (12 when both (among (3 ∷ 4 ∷ []) (o .kind)) (ltb (f .out) (pick (crypts o) (o .count) imageLength)))
+    ∷ (12 when both (among (3 ∷ 4 ∷ []) (o .kind)) (ltb (f .outCount) (pick (crypts o) (o .count) imageLength)))
     ∷ []
 
 -- the rows that a command meets in a call, and what is left where it passes them
@@ -350,10 +342,10 @@ decide v a = ofDecoded (decodeOf (a .command)) v a
 
 pub record Stepped : Type 0 where
   pub machine : Machine
-  pub outcome : Outcome
+  pub outcome : Reply
 
-abbrev pub answer : ℕ → ℕ → ℕ → List ℕ → Outcome
-answer k c d w = record { code = k; used-command = c; used-data = d; written = w }
+abbrev pub answer : ℕ → ℕ → ℕ → List ℕ → Reply
+answer k c d w = record { code = k; used-command = c; used-data = d; output = w }
 
 abbrev pub perform : Machine → List ℕ → Effect → Stepped
 perform m text (refuse k) = record { machine = m; outcome = answer k 0 0 [] }
@@ -370,7 +362,7 @@ step m a = perform m (a .text) (decide (public m) a)
 -- ---- what a call shows: its outcome, and what is seen after it
 
 pub record Shown : Type 0 where
-  pub outcome : Outcome
+  pub outcome : Reply
   pub card : Seen
 
 abbrev pub shows : Stepped → Shown

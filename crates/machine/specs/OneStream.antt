@@ -41,12 +41,12 @@ pub record GoesOn (l l' : MLine) : Type 0 where
 -- An accepted call on line i: the second byte of every command is its line.
 pub record On (i : ℕ) (x : Made) : Type 0 where
   pub accepted : x .code ≡ 0
-  pub line : getD (x .call .command) 1 0 ≡ i
+  pub line-is : getD (x .call .command) 1 0 ≡ i
 
 -- Line i after a call is as it was before, on the card and in its log.
 pub record Kept (i : ℕ) (before : List Made) (x : Made) : Type 0 where
-  pub line : lineOn (x .card) i ≡ lineOn (cardAfter freshCard before) i
-  pub log : logOf i (before ++ (x ∷ [])) ≡ logOf i before
+  pub line-is : lineOn (x .card) i ≡ lineOn (cardAfter freshCard before) i
+  pub log-is : logOf i (before ++ (x ∷ [])) ≡ logOf i before
 
 -- x stands in the list xs after the calls before it.
 pub record Stands (before : List Made) (x : Made) (xs : List Made) : Type 0 where
@@ -80,10 +80,10 @@ pub record OneStream (xs : List Made) : Type 0 where
 -- A crypt on line i takes the positions from where its line stands on, one for each byte of its input: they begin after those that the crypts since its line's open or resume took, and the
 -- next crypt begins after them.
 pub record Takes (i : ℕ) (before : List Made) (x : Made) (input : List ℕ) : Type 0 where
-  pub from : lineOn (cardAfter freshCard before) i .n ≡ logOf i before .start .pos + length (logOf i before .ins)
-  pub to : lineOn (x .card) i .n ≡ lineOn (cardAfter freshCard before) i .n + length input
+  pub begins : lineOn (cardAfter freshCard before) i .n ≡ logOf i before .start .pos + length (logOf i before .ins)
+  pub ends : lineOn (x .card) i .n ≡ lineOn (cardAfter freshCard before) i .n + length input
   pub since : logOf i (before ++ (x ∷ [])) .start ≡ logOf i before .start
-  pub taken : logOf i (before ++ (x ∷ [])) .ins ≡ logOf i before .ins ++ input
+  pub inputs : logOf i (before ++ (x ∷ [])) .ins ≡ logOf i before .ins ++ input
 
 -- The list xs, from a fresh card: no position comes round, and no card is damaged.
 pub record Counted (xs : List Made) : Type 0 where

@@ -12,7 +12,7 @@ use Rattle.machine.specs.OneStream.{Stands}
 
 -- x is a whole resume command with this image, for line j, which is idle before it
 pub record Brings (j : ℕ) (image : List ℕ) (sofar : List Made) (x : Made) : Type 0 where
-  pub read : decodeOf (x .call .command) ≡ Run (Resume j)
+  pub read-as : decodeOf (x .call .command) ≡ Run (Resume j)
   pub image-is : imageIn (x .call .command) ≡ image
   pub idle-line : lineOn (cardAfter freshCard sofar) j .mode ≡ 0
 

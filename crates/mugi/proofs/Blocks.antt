@@ -21,7 +21,7 @@ use Rattle.field.specs.Tables.{subList}
 use Rattle.field.proofs.Additive.{mul-byte}
 use Rattle.field.proofs.Columns.{sub-rule, sub-byte, up1, up2, up3}
 use Rattle.mugi_tables.specs.Tables.{mixingList}
-use Rattle.mugi.specs.Cipher.{left, right, rotl64, m, mixed, shuffled, f}
+use Rattle.mugi.specs.Cipher.{left, right, rotl64, m, mixedHalf, shuffled, f}
 
 moved-up : (x j k : ℕ) → x * 2 ^ k % 2 ^ (j + k) ≡ x % 2 ^ j * 2 ^ k
 moved-up x j k =
@@ -100,15 +100,15 @@ sub-of x = sub-byte (x % 2 ^ 8) (byte-of x)
 -- M with its halves exchanged, from the table
 pub mixed-by : (w : ℕ)
     → rotl 16 (getD mixingList (b3 w) 0) ⊕ rotl 8 (getD mixingList (b2 w) 0) ⊕ getD mixingList (b1 w) 0 ⊕ rotl 24 (getD mixingList (b0 w) 0)
-    ≡ low16 (mixed w) * 2 ^ 16 + high16 (mixed w)
-unfolding mixed
+    ≡ low16 (mixedHalf w) * 2 ^ 16 + high16 (mixedHalf w)
+unfolding mixedHalf
 mixed-by w =
     (λ i. rotl 16 (entry (w / 2 ^ 24) i) ⊕ rotl 8 (entry (w / 2 ^ 16) i) ⊕ entry (w / 2 ^ 8) i ⊕ rotl 24 (entry w i))
     ∙ parts (sub (b3 w)) (sub (b2 w)) (sub (b1 w)) (sub (b0 w)) (sub-of (w / 2 ^ 24)) (sub-of (w / 2 ^ 16)) (sub-of (w / 2 ^ 8)) (sub-of w)
-    ∙ exchanged (mixed w)
+    ∙ exchanged (mixedHalf w)
 
-pub mixed-word : (w : ℕ) → Word (mixed w)
-unfolding mixed
+pub mixed-word : (w : ℕ) → Word (mixedHalf w)
+unfolding mixedHalf
 mixed-word w = m-word (sub (b3 w)) (sub (b2 w)) (sub (b1 w)) (sub (b0 w)) (sub-of (w / 2 ^ 24)) (sub-of (w / 2 ^ 16)) (sub-of (w / 2 ^ 8)) (sub-of w)
 
 -- F's last line, of the two words with their halves exchanged
@@ -128,11 +128,11 @@ three-parts ha hy hb = omega arith
 pub between-fits : (x y z : ℕ) → Word x → Word y → z ≡ rotl64 48 x → z + y * 2 ^ 16 < 2 ^ 64
 between-fits x y z hx hy e = subst (λ (n : ℕ). n < 2 ^ 64) (sym (between x y z e)) (three-parts (mod-lt x (pow-pos 16)) hy (upper-half hx))
 
-pub f-by : (x l r : ℕ) → l ≡ low16 (mixed (left x)) * 2 ^ 16 + high16 (mixed (left x)) → r ≡ low16 (mixed (right x)) * 2 ^ 16 + high16 (mixed (right x))
+pub f-by : (x l r : ℕ) → l ≡ low16 (mixedHalf (left x)) * 2 ^ 16 + high16 (mixedHalf (left x)) → r ≡ low16 (mixedHalf (right x)) * 2 ^ 16 + high16 (mixedHalf (right x))
     → r % 2 ^ 16 * 2 ^ 48 + l * 2 ^ 16 + r / 2 ^ 16 ≡ f x
 unfolding f shuffled
 f-by x l r el er =
-    let h : high16 (mixed (right x)) < 2 ^ 16 = upper-half (mixed-word (right x)) in
+    let h : high16 (mixedHalf (right x)) < 2 ^ 16 = upper-half (mixed-word (right x)) in
     ap₂ (λ (p q : ℕ). p % 2 ^ 16 * 2 ^ 48 + q * 2 ^ 16 + p / 2 ^ 16) er el
-    ∙ ap₂ (λ (p q : ℕ). p * 2 ^ 48 + (low16 (mixed (left x)) * 2 ^ 16 + high16 (mixed (left x))) * 2 ^ 16 + q) (low (low16 (mixed (right x))) 16 h) (high (low16 (mixed (right x))) 16 h)
-    ∙ joined (high16 (mixed (right x))) (low16 (mixed (left x))) (high16 (mixed (left x))) (low16 (mixed (right x)))
+    ∙ ap₂ (λ (p q : ℕ). p * 2 ^ 48 + (low16 (mixedHalf (left x)) * 2 ^ 16 + high16 (mixedHalf (left x))) * 2 ^ 16 + q) (low (low16 (mixedHalf (right x))) 16 h) (high (low16 (mixedHalf (right x))) 16 h)
+    ∙ joined (high16 (mixedHalf (right x))) (low16 (mixedHalf (left x))) (high16 (mixedHalf (left x))) (low16 (mixedHalf (right x)))

@@ -13,7 +13,7 @@ use Rattle.words.specs.Strings.{bytesOf}
 use Rattle.words.specs.Lists.{All, none, more, iter, Byte, Word}
 use Rattle.words.proofs.Ranges.{all-at, all-append, iter-keeps, wordAt-word, bytesOf-bytes}
 use Rattle.mugi.specs.declared.Mugi.{Mugi}
-use Rattle.mugi.specs.Cipher.{left, right, block, rotl64, blockAt, cell, mixed, shuffled, f, rho1, lambda1, next, strm, spread, turned, filled, keyed, added, withIv, init, unit, u}
+use Rattle.mugi.specs.Cipher.{left, right, block, rotl64, blockAt, cell, mixedHalf, shuffled, f, rho1, lambda1, next, strm, spread, turned, filled, keyed, added, withIv, init, unit, u}
 use Rattle.mugi.specs.Range.{Block, InRange}
 use Rattle.mugi.proofs.Blocks.{rotated, mixed-word}
 
@@ -36,8 +36,8 @@ f-block : (x : ℕ) → Block (f x)
 unfolding f shuffled
 f-block x =
     block-of
-    (half-word (upper (mixed-word (right x))) (mod-lt (mixed (left x)) (lit< tt)))
-    (half-word (upper (mixed-word (left x))) (mod-lt (mixed (right x)) (lit< tt)))
+    (half-word (upper (mixed-word (right x))) (mod-lt (mixedHalf (left x)) (lit< tt)))
+    (half-word (upper (mixed-word (left x))) (mod-lt (mixedHalf (right x)) (lit< tt)))
 
 rho1-blocks : {a : List ℕ} (w1 w2 : ℕ) → All Block a → All Block (rho1 a w1 w2)
 unfolding rho1

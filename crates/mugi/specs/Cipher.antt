@@ -55,8 +55,8 @@ m x0 x1 x2 x3 =
     (mul8 aes x0 3 ⊕ x1 ⊕ x2 ⊕ mul8 aes x3 2)
 
 -- 8.1.7, of half a block: M of what S_R, which is SUB, makes of its bytes
-unfoldable pub mixed : ℕ → ℕ
-mixed w = m (sub (b3 w)) (sub (b2 w)) (sub (b1 w)) (sub (b0 w))
+unfoldable pub mixedHalf : ℕ → ℕ
+mixedHalf w = m (sub (b3 w)) (sub (b2 w)) (sub (b1 w)) (sub (b0 w))
 
 -- 8.1.7, its last line: Q4 Q5 Q2 Q3 Q0 Q1 Q6 Q7, of QL = Q0 Q1 Q2 Q3 and QR = Q4 Q5 Q6 Q7
 unfoldable pub shuffled : ℕ → ℕ → ℕ
@@ -64,7 +64,7 @@ shuffled l r = block (high r ∥ low l) (high l ∥ low r)
 
 -- 8.1.7: F, of X' = X ⊕ T
 unfoldable pub f : ℕ → ℕ
-f x = shuffled (mixed (left x)) (mixed (right x))
+f x = shuffled (mixedHalf (left x)) (mixedHalf (right x))
 
 -- 8.1.5: ρ1
 unfoldable pub rho1 : List ℕ → (w1 w2 : ℕ) → List ℕ

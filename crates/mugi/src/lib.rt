@@ -1,10 +1,10 @@
 // MUGI (ISO/IEC 18033-4, 8.1): a state by value, its step, its output, and four of both at once.
-// A caller lends the table that `mugi_tables` makes.
+// The caller passes the table that `mugi_tables` makes by reference.
 ghost use mathlib.Core.Path.{_≡_};
 ghost use Prim.Native.Nat.{_+_, _*_, _/_, _%_, _^_};
 ghost use Rattle.words.specs.Word.{_∥_, high, low};
 ghost use Rattle.mugi_tables.specs.Tables.{mixingList};
-ghost use Rattle.mugi.specs.Cipher.{block, left as leftOf, right as rightOf, rotl64, mixed as mixedOf, f as fOf, lambda1, next, strm};
+ghost use Rattle.mugi.specs.Cipher.{block, left as leftOf, right as rightOf, rotl64, mixedHalf as mixedOf, f as fOf, lambda1, next, strm};
 ghost use Rattle.mugi.specs.Steps.{stirred, first as firstOf, second as secondOf, moved as movedOf, fourOf};
 
 // a0..a2 and b0..b15.

@@ -1,4 +1,4 @@
-// The table of MUGI. An index into a constant builds the constant anew, so whoever runs many steps makes the table once and lends it.
+// The table of MUGI. An index into a constant builds the constant anew, so whoever runs many steps makes the table once and passes it by reference.
 ghost use mathlib.Core.Path.{_≡_};
 ghost use Rattle.mugi_tables.specs.Tables.{mixingList};
 

@@ -1,10 +1,9 @@
 // MUGI over a text: the table made once, the rest of a begun unit, whole units four to a turn, and the tail.
-// A caller holds that the place in the unit is one of its eight bytes and that the text fits the buffer.
+// The caller must ensure that the place in the unit is one of its eight bytes and that the text fits the buffer.
 ghost use mathlib.Core.Path.{_≡_};
-ghost use mathlib.Core.List.{_++_};
-ghost use Prim.Native.Nat.{_+_, _/_, _≤_, _<_};
-ghost use lib.ListN.{length, drop};
-ghost use Rattle.keystream.specs.Stream.{stateAt, byteAt, xorFrom, Did};
+ghost use Prim.Native.Nat.{_≤_, _<_};
+ghost use lib.ListN.{length};
+ghost use Rattle.keystream.specs.Stream.{TextCrypted, PartCrypted};
 ghost use Rattle.mugi_tables.specs.Tables.{mixingList};
 ghost use Rattle.mugi.specs.Generator.{gen};
 use mugi::Mugi;
@@ -16,7 +15,7 @@ use mugi_units::unit;
 fn ones(st: Mugi, t: &[u32; 256], text: &[u8], out: &mut [u8]) -> Mugi
     requires { ⌜ now t ≡ mixingList ⌝ }
     requires { ⌜ length (now text) ≤ length (now out) ⌝ }
-    ensures { λ r. ⌜ Did gen 0 st (length (now (text .entry))) (now (text .entry)) (now (out .entry)) r (now (out .exit)) ⌝ }
+    ensures { λ r. ⌜ PartCrypted gen 0 st (length (now (text .entry))) (now (text .entry)) (now (out .entry)) r (now (out .exit)) ⌝ }
 {
     let count = text.len();
     let mut cur = st;
@@ -32,7 +31,7 @@ fn ones(st: Mugi, t: &[u32; 256], text: &[u8], out: &mut [u8]) -> Mugi
 fn fours(st: Mugi, t: &[u32; 256], text: &[u8], out: &mut [u8]) -> Mugi
     requires { ⌜ now t ≡ mixingList ⌝ }
     requires { ⌜ length (now text) ≤ length (now out) ⌝ }
-    ensures { λ r. ⌜ Did gen 0 st (length (now (text .entry))) (now (text .entry)) (now (out .entry)) r (now (out .exit)) ⌝ }
+    ensures { λ r. ⌜ PartCrypted gen 0 st (length (now (text .entry))) (now (text .entry)) (now (out .entry)) r (now (out .exit)) ⌝ }
 {
     let count = text.len();
     let mut cur = st;
@@ -48,7 +47,7 @@ fn fours(st: Mugi, t: &[u32; 256], text: &[u8], out: &mut [u8]) -> Mugi
 // which the next byte lies.
 pub fn crypt(st: Mugi, skip: usize, text: &[u8], out: &mut [u8]) -> Mugi
     requires { ⌜ (skip < 8) × (length (now text) ≤ length (now out)) ⌝ }
-    ensures { λ r. ⌜ (r ≡ stateAt gen st 0 ((skip + length (now (text .entry))) / 8)) × (now (out .exit) ≡ xorFrom (byteAt gen st 0) skip (now (text .entry)) ++ drop (length (now (text .entry))) (now (out .entry))) ⌝ }
+    ensures { λ r. ⌜ TextCrypted gen skip st (now (text .entry)) (now (out .entry)) r (now (out .exit)) ⌝ }
 {
     let t = mugi_tables::mixing();
     let head = writer::least((8 - skip) % 8, text.len());

@@ -13,7 +13,7 @@ use Rattle.words.specs.Word.{_⊕_, word}
 use Rattle.words.specs.Strings.{wordAt, bytesOf}
 use Rattle.words.specs.Lists.{Byte, Word, tab}
 use Rattle.words.proofs.Ranges.{join-word}
-use Rattle.keystream.specs.Stream.{xorFrom, Did}
+use Rattle.keystream.specs.Stream.{xorFrom, PartCrypted}
 use Rattle.keystream.proofs.Laws.{xorFrom-agree, fill-part}
 use Rattle.keystream.proofs.Parts.{did-end, did-length, tail-length, lentFrom, backFrom, did-four}
 use Rattle.writer.proofs.Stores.{word-stores}
@@ -108,7 +108,7 @@ put-bytes y out e h =
     ap (λ (l : List ℕ). sets out 0 (tab 8 (λ i. getD l i 0))) e ∙ sets-eq (bytesOf (left y) ++ bytesOf (right y)) out 0 h
 
 pub did-unit : {s s' : Mugi} {z : ℕ} {text out out' : List ℕ} → 8 ≤ length text → z ≡ strm s → Put z text out out' → s' ≡ next s
-    → Did gen 0 s 8 text out s' out'
+    → PartCrypted gen 0 s 8 text out s' out'
 unfolding gen unit
 did-unit {s} {z = z} {text} {out} {out'} h k w e =
     did-end gen (omega arith) 0 8 s text out out' (byte (left z) (right z)) (λ i q. ap (λ (x : ℕ). byte (left x) (right x) i) k) h w refl e
@@ -117,20 +117,20 @@ did-unit {s} {z = z} {text} {out} {out'} h k w e =
 module _ (s : Mugi) (r : Four) (e : r ≡ fourOf s) (text out : List ℕ) {o1 o2 o3 : List ℕ} (in-text : 32 ≤ length text) (in-out : 32 ≤ length out)
     (w1 : Put (getD (r .z) 0 0) text out o1) (w2 : Put (getD (r .z) 1 0) (lentFrom 8 text) (lentFrom 8 o1) o2)
     (w3 : Put (getD (r .z) 2 0) (lentFrom 16 text) (lentFrom 16 (backFrom 8 o1 o2)) o3) where
-  abbrev d1 : Did gen 0 s 8 text out (next s) o1
+  abbrev d1 : PartCrypted gen 0 s 8 text out (next s) o1
   unfolding fourOf
   d1 = did-unit (omega arith) (ap (λ (x : Four). getD (x .z) 0 0) e) w1 refl
 
-  abbrev d2 : Did gen 0 (next s) 8 (lentFrom 8 text) (lentFrom 8 o1) (next (next s)) o2
+  abbrev d2 : PartCrypted gen 0 (next s) 8 (lentFrom 8 text) (lentFrom 8 o1) (next (next s)) o2
   unfolding fourOf
   d2 = did-unit (omega (arith, tail-length 8 text)) (ap (λ (x : Four). getD (x .z) 1 0) e) w2 refl
 
-  abbrev d3 : Did gen 0 (next (next s)) 8 (lentFrom 16 text) (lentFrom 16 (backFrom 8 o1 o2)) (next (next (next s))) o3
+  abbrev d3 : PartCrypted gen 0 (next (next s)) 8 (lentFrom 16 text) (lentFrom 16 (backFrom 8 o1 o2)) (next (next (next s))) o3
   unfolding fourOf
   d3 = did-unit (omega (arith, tail-length 16 text)) (ap (λ (x : Four). getD (x .z) 2 0) e) w3 refl
 
   module _ {o4 : List ℕ} (w4 : Put (getD (r .z) 3 0) (lentFrom 24 text) (lentFrom 24 (backFrom 16 (backFrom 8 o1 o2) o3)) o4) where
-    pub done : Did gen 0 s 32 text out (r .after) (backFrom 24 (backFrom 16 (backFrom 8 o1 o2) o3) o4)
+    pub done : PartCrypted gen 0 s 32 text out (r .after) (backFrom 24 (backFrom 16 (backFrom 8 o1 o2) o3) o4)
     unfolding gen fourOf
     done =
         did-four gen 8 (omega arith) refl in-text in-out d1 d2 d3

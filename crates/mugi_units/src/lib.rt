@@ -1,11 +1,11 @@
 // Units of MUGI's keystream over a text: one that is whole, four to a turn, and a part of one, each with the step after it.
-// A caller holds that the text and the buffer have the bytes, and lends the table that `mugi_tables` makes.
+// The caller must ensure that the text and the buffer have the bytes, and passes by reference the table that `mugi_tables` makes.
 ghost use mathlib.Core.Path.{_≡_};
 ghost use mathlib.Core.List.{_++_};
 ghost use Prim.Native.Nat.{_+_, _≤_};
 ghost use lib.ListN.{length, take, drop, getD};
 ghost use Rattle.words.specs.Strings.{bytesOf};
-ghost use Rattle.keystream.specs.Stream.{xorFrom, Did};
+ghost use Rattle.keystream.specs.Stream.{xorFrom, PartCrypted};
 ghost use Rattle.mugi_tables.specs.Tables.{mixingList};
 ghost use Rattle.mugi.specs.Cipher.{left as leftOf, right as rightOf};
 ghost use Rattle.mugi.specs.Generator.{gen};
@@ -42,7 +42,8 @@ fn put_block(y: u64, out: &mut [u8])
 // The first eight bytes of text, with those of z, go to the start of out.
 fn put(z: u64, text: &[u8], out: &mut [u8])
     requires { ⌜ (8 ≤ length (now text)) × (8 ≤ length (now out)) ⌝ }
-    ensures { λ _. ⌜ now (out .exit) ≡ xorFrom (λ j. getD (bytesOf (leftOf z) ++ bytesOf (rightOf z)) j 0) 0 (take 8 (now (text .entry))) ++ drop 8 (now (out .entry)) ⌝ }
+    ensures { λ _. ⌜ now (out .exit) ≡ xorFrom (λ j. getD (bytesOf (leftOf z) ++ bytesOf (rightOf z)) j 0) 0 (take 8 (now (text .entry))) ++
+        drop 8 (now (out .entry)) ⌝ }
 {
     let l = words::word_at(text, 0);
     let r = words::word_at(text, 4);
@@ -53,7 +54,7 @@ fn put(z: u64, text: &[u8], out: &mut [u8])
 pub fn unit(st: Mugi, t: &[u32; 256], text: &[u8], out: &mut [u8]) -> Mugi
     requires { ⌜ now t ≡ mixingList ⌝ }
     requires { ⌜ (8 ≤ length (now text)) × (8 ≤ length (now out)) ⌝ }
-    ensures { λ r. ⌜ Did gen 0 st 8 (now (text .entry)) (now (out .entry)) r (now (out .exit)) ⌝ }
+    ensures { λ r. ⌜ PartCrypted gen 0 st 8 (now (text .entry)) (now (out .entry)) r (now (out .exit)) ⌝ }
 {
     put(st.output(), text, out);
     st.step(t)
@@ -63,7 +64,7 @@ pub fn unit(st: Mugi, t: &[u32; 256], text: &[u8], out: &mut [u8]) -> Mugi
 pub fn four(st: Mugi, t: &[u32; 256], text: &[u8], out: &mut [u8]) -> Mugi
     requires { ⌜ now t ≡ mixingList ⌝ }
     requires { ⌜ (32 ≤ length (now text)) × (32 ≤ length (now out)) ⌝ }
-    ensures { λ r. ⌜ Did gen 0 st 32 (now (text .entry)) (now (out .entry)) r (now (out .exit)) ⌝ }
+    ensures { λ r. ⌜ PartCrypted gen 0 st 32 (now (text .entry)) (now (out .entry)) r (now (out .exit)) ⌝ }
 {
     let r = st.four(t);
     let z = r.z;
@@ -78,7 +79,7 @@ pub fn four(st: Mugi, t: &[u32; 256], text: &[u8], out: &mut [u8]) -> Mugi
 pub fn part(st: Mugi, t: &[u32; 256], from: usize, used: usize, text: &[u8], out: &mut [u8]) -> Mugi
     requires { ⌜ now t ≡ mixingList ⌝ }
     requires { ⌜ (from + used ≤ 8) × ((used ≤ length (now text)) × (used ≤ length (now out))) ⌝ }
-    ensures { λ r. ⌜ Did gen from st used (now (text .entry)) (now (out .entry)) r (now (out .exit)) ⌝ }
+    ensures { λ r. ⌜ PartCrypted gen from st used (now (text .entry)) (now (out .entry)) r (now (out .exit)) ⌝ }
 {
     let ks = bytes(st.output());
     writer::put_part(&ks, from, used, text, out);

@@ -1,12 +1,11 @@
 // MUGI over a line's words.
-// A caller holds the lengths of key and IV, a place within a unit, and a buffer as long as the text.
+// The caller must ensure the lengths of key and IV, a place within a unit, and a buffer as long as the text.
 ghost use mathlib.Core.Path.{_≡_};
 ghost use mathlib.Core.Bool.{true};
-ghost use mathlib.Core.List.{_++_};
-ghost use Prim.Native.Nat.{_+_, _/_, _<_, _≤_};
-ghost use lib.ListN.{length, drop};
+ghost use Prim.Native.Nat.{_+_, _<_, _≤_};
+ghost use lib.ListN.{length};
 ghost use Rattle.words.specs.Lists.{tab};
-ghost use Rattle.keystream.specs.Stream.{stateAt, byteAt, xorFrom};
+ghost use Rattle.keystream.specs.Stream.{TextCrypted};
 ghost use Rattle.ciphers.specs.States.{stateWords, halves, blockIn, mugiWords, mugiState};
 ghost use Rattle.ciphers.specs.Table.{mugi};
 use card_sizes::STATE;
@@ -128,7 +127,7 @@ pub fn open(key: &[u8], iv: &[u8]) -> [u32; STATE]
 pub fn xor_text(w: &mut [u32], skip: usize, text: &[u8], out: &mut [u8])
     requires { ⌜ (length (now w) ≡ stateWords) × (mugi .admits (now w) ≡ true) ⌝ }
     requires { ⌜ (skip < 8) × (length (now text) ≤ length (now out)) ⌝ }
-    ensures { λ _. ⌜ (now (w .exit) ≡ stateAt (mugi .gen) (now (w .entry)) 0 ((skip + length (now (text .entry))) / 8)) × (now (out .exit) ≡ xorFrom (byteAt (mugi .gen) (now (w .entry)) 0) skip (now (text .entry)) ++ drop (length (now (text .entry))) (now (out .entry))) ⌝ }
+    ensures { λ _. ⌜ TextCrypted (mugi .gen) skip (now (w .entry)) (now (text .entry)) (now (out .entry)) (now (w .exit)) (now (out .exit)) ⌝ }
 {
     let after = mugi_text::crypt(load(w), skip, text, out);
     store(after, w);

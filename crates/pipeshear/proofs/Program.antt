@@ -18,17 +18,17 @@ use Rattle.card_layout.specs.Words.{cardIn}
 use Rattle.card_layout.proofs.Cards.{fresh-words}
 use Rattle.card_outcome.specs.declared.Outcome.{Outcome}
 use Rattle.card_outcome.specs.Outcomes.{outcomeOf, Code, damaged}
-use Rattle.card_outcome.specs.Leaves.{outOf, wordsOf, Called}
+use Rattle.card_outcome.specs.Leaves.{outOf, wordsOf, CallLeaves}
 use Rattle.card_outcome.proofs.Refusals.{refused-whole, numbered}
 use Rattle.card_outcome.proofs.Every.{Stored, every-call, stored-next, runOf, calls-of, fresh-stored}
-use Rattle.pipeshear.specs.Calls.{Result, shownAs, UntouchedOn, Promised}
+use Rattle.pipeshear.specs.Calls.{Result, shownAs, UntouchedOn, EntryPromise}
 use Rattle.pipeshear.specs.Runs.{recordedOn, RanOn, none, call}
 use Rattle.pipeshear.proofs.Results.{wrong-counts-is, wrong-card-is, as-shown, ran}
 
-module _ (ws : List ℕ) (a : Call) (counts : List ℕ) {code : ℕ} {ws' out' counts' : List ℕ} (h : Promised ws a counts code ws' out' counts') where
+module _ (ws : List ℕ) (a : Call) (counts : List ℕ) {code : ℕ} {ws' out' counts' : List ℕ} (h : EntryPromise ws a counts code ws' out' counts') where
   module _ (n : length counts ≡ 3) (m : length ws ≡ cardSize) where
     -- what a call leaves whose counts and card are as long as they should be
-    shown-is : record { code = code; card = ws'; out = out'; counts = counts' } ≡ shownAs (cardStep (cardIn ws) a) ws (a .out)
+    shown-is : record { code = code; words = ws'; out = out'; counts = counts' } ≡ shownAs (cardStep (cardIn ws) a) ws (a .out)
     shown-is = h .result-is ∙ as-shown ws a counts n m
 
     code-of : code ≡ cardStep (cardIn ws) a .outcome .code
@@ -39,9 +39,9 @@ module _ (ws : List ℕ) (a : Call) (counts : List ℕ) {code : ℕ} {ws' out' c
     counts-of = ap (λ (y : Result). y .counts) shown-is
 
     -- Such a call is one of the engine, so what is said of those is so of it.
-    pub called-on : Called ws a (outcomeOf (cardStep (cardIn ws) a .outcome)) ws' out'
+    pub called-on : CallLeaves ws a (outcomeOf (cardStep (cardIn ws) a .outcome)) ws' out'
     unfolding shownAs
-    called-on = record { outcome-is = refl; card-is = h .seen-is n m; words-are = ap (λ (y : Result). y .card) shown-is; out-is = ap (λ (y : Result). y .out) shown-is }
+    called-on = record { outcome-is = refl; card-is = h .seen-is n m; words-are = ap (λ (y : Result). y .words) shown-is; out-is = ap (λ (y : Result). y .out) shown-is }
 
     -- what is recorded of a call is what the card's step shows
     recorded-is : recordedOn a code ws' out' counts' ≡ madeOf a (cardStep (cardIn ws) a)
@@ -61,7 +61,7 @@ ran-steps : {ws : List ℕ} {xs : List Made} → RanOn ws xs → length ws ≡ c
 ran-steps none m = no-steps
 ran-steps (call {ws = ws} {a = a} {counts = k} {xs = xs} n h t) m =
     subst (λ (x : Made). Steps (cardIn ws) (x ∷ xs)) (sym (recorded-is ws a k h n m))
-    (one-step (h .bytes) (subst (λ (s : Seen). Steps s xs) (h .seen-is n m) (ran-steps t (h .size-is ∙ m))))
+    (one-step (h .borrowed) (subst (λ (s : Seen). Steps s xs) (h .seen-is n m) (ran-steps t (h .size-is ∙ m))))
 
 from-zeros : {xs : List Made} → RanOn (replicate cardSize 0) xs → Steps freshCard xs
 from-zeros {xs} h = subst (λ (s : Seen). Steps s xs) fresh-words (ran-steps h refl)
@@ -78,7 +78,7 @@ parked-calls-on xs h = steps-parked-calls xs (from-zeros h)
 
 -- ---- a refusal, whatever was handed in
 
-module _ (ws : List ℕ) (a : Call) (counts : List ℕ) {code : ℕ} {ws' out' counts' : List ℕ} (h : Promised ws a counts code ws' out' counts') (f : code ≡ 0 → ⊥) where
+module _ (ws : List ℕ) (a : Call) (counts : List ℕ) {code : ℕ} {ws' out' counts' : List ℕ} (h : EntryPromise ws a counts code ws' out' counts') (f : code ≡ 0 → ⊥) where
   whole : length counts ≡ 3 → length ws ≡ cardSize → UntouchedOn ws (a .out) counts ws' out' counts'
   unfolding outcomeOf shownAs
   whole n m =
@@ -98,14 +98,14 @@ module _ (ws : List ℕ) (a : Call) (counts : List ℕ) {code : ℕ} {ws' out' c
       by false e y g =
           let k = eqb-false (length counts) 3 e in
           let q = h .result-is ∙ wrong-counts-is ws a counts k in
-          record { words-are = ap (λ (y : Result). y .card) q; out-is = ap (λ (y : Result). y .out) q; counts-are = λ n. absurd (k n); counts-stay = λ _. ap (λ (y : Result). y .counts) q }
+          record { words-are = ap (λ (y : Result). y .words) q; out-is = ap (λ (y : Result). y .out) q; counts-are = λ n. absurd (k n); counts-stay = λ _. ap (λ (y : Result). y .counts) q }
       by true e true g = whole (eqb-true (length counts) 3 e) (eqb-true (length ws) cardSize g)
       by true e false g =
           let n = eqb-true (length counts) 3 e in
           let q = h .result-is ∙ wrong-card-is ws a counts n (eqb-false (length ws) cardSize g) in
-          record { words-are = ap (λ (y : Result). y .card) q; out-is = ap (λ (y : Result). y .out) q; counts-are = λ _. ap (λ (y : Result). y .counts) q; counts-stay = λ k. absurd (k n) }
+          record { words-are = ap (λ (y : Result). y .words) q; out-is = ap (λ (y : Result). y .out) q; counts-are = λ _. ap (λ (y : Result). y .counts) q; counts-stay = λ k. absurd (k n) }
 
-module _ (ws : List ℕ) (a : Call) (counts : List ℕ) {code : ℕ} {ws' out' counts' : List ℕ} (h : Promised ws a counts code ws' out' counts') where
+module _ (ws : List ℕ) (a : Call) (counts : List ℕ) {code : ℕ} {ws' out' counts' : List ℕ} (h : EntryPromise ws a counts code ws' out' counts') where
   -- Every code is 0, one of document 01's numbers, or 255, whatever was handed in.
   pub numbered-on : Code code
   unfolding outcomeOf

@@ -15,7 +15,7 @@ use Rattle.card_outcome.specs.Leaves.{outOf, wordsOf}
 
 pub record Result : Type 0 where
   pub code : ℕ
-  pub card : List ℕ
+  pub words : List ℕ
   pub out : List ℕ
   pub counts : List ℕ
 
@@ -24,16 +24,16 @@ unfoldable pub shownAs : Shown → (ws out : List ℕ) → Result
 shownAs s ws out =
     record {
       code = s .outcome .code;
-      card = wordsOf s ws;
+      words = wordsOf s ws;
       out = outOf s out;
-      counts = s .outcome .used-command ∷ s .outcome .used-data ∷ length (s .outcome .written) ∷ [];
+      counts = s .outcome .used-command ∷ s .outcome .used-data ∷ length (s .outcome .output) ∷ [];
     }
 
 -- 255 for counts or a card of the wrong length; counts of the wrong length stay as they are
 unfoldable pub resultOf : List ℕ → Call → List ℕ → Result
 resultOf ws a counts =
-    pick (not (eqb (length counts) 3)) (record { code = 255; card = ws; out = a .out; counts = counts })
-    (pick (not (eqb (length ws) cardSize)) (record { code = 255; card = ws; out = a .out; counts = 0 ∷ 0 ∷ 0 ∷ [] })
+    pick (not (eqb (length counts) 3)) (record { code = 255; words = ws; out = a .out; counts = counts })
+    (pick (not (eqb (length ws) cardSize)) (record { code = 255; words = ws; out = a .out; counts = 0 ∷ 0 ∷ 0 ∷ [] })
     (shownAs (cardStep (cardIn ws) a) ws (a .out)))
 
 -- what a refusal leaves: the words and out as they were, and three zeros in counts that are three; others stay
@@ -44,8 +44,8 @@ pub record UntouchedOn (ws out counts ws' out' counts' : List ℕ) : Type 0 wher
   pub counts-stay : (length counts ≡ 3 → ⊥) → counts' ≡ counts
 
 -- the promise of a call: all that it leaves, in one equation; that the words are as many as they were and hold the card that the step shows; and that it was lent bytes
-pub record Promised (ws : List ℕ) (a : Call) (counts : List ℕ) (code : ℕ) (ws' out' counts' : List ℕ) : Type 0 where
-  pub result-is : record { code = code; card = ws'; out = out'; counts = counts' } ≡ resultOf ws a counts
+pub record EntryPromise (ws : List ℕ) (a : Call) (counts : List ℕ) (code : ℕ) (ws' out' counts' : List ℕ) : Type 0 where
+  pub result-is : record { code = code; words = ws'; out = out'; counts = counts' } ≡ resultOf ws a counts
   pub seen-is : length counts ≡ 3 → length ws ≡ cardSize → cardIn ws' ≡ cardStep (cardIn ws) a .card
   pub size-is : length ws' ≡ length ws
-  pub bytes : CallBytes a
+  pub borrowed : CallBytes a

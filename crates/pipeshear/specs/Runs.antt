@@ -7,7 +7,7 @@ use lib.ListN.{length, getD}
 use Rattle.machine.specs.Machine.{Call}
 use Rattle.machine.specs.Logs.{Made}
 use Rattle.card_layout.specs.Words.{cardIn}
-use Rattle.pipeshear.specs.Calls.{Promised}
+use Rattle.pipeshear.specs.Calls.{EntryPromise}
 
 -- a call and what it left
 abbrev pub recordedOn : Call → ℕ → (ws out counts : List ℕ) → Made
@@ -25,4 +25,4 @@ recordedOn a code ws out counts =
 pub data RanOn : List ℕ → List Made → Type 0 where
   none : {ws : List ℕ} → RanOn ws []
   call : {ws : List ℕ} {a : Call} {counts : List ℕ} {code : ℕ} {ws' out' counts' : List ℕ} {xs : List Made} →
-      length counts ≡ 3 → Promised ws a counts code ws' out' counts' → RanOn ws' xs → RanOn ws (recordedOn a code ws' out' counts' ∷ xs)
+      length counts ≡ 3 → EntryPromise ws a counts code ws' out' counts' → RanOn ws' xs → RanOn ws (recordedOn a code ws' out' counts' ∷ xs)

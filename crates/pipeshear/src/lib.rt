@@ -4,7 +4,7 @@ ghost use mathlib.Core.Path.{_≡_};
 ghost use mathlib.Core.List.{[], _∷_};
 ghost use lib.ListN.{length};
 ghost use Rattle.card_outcome.specs.Leaves.{callOf};
-ghost use Rattle.pipeshear.specs.Calls.{Promised};
+ghost use Rattle.pipeshear.specs.Calls.{EntryPromise};
 use card_sizes::CARD;
 
 // The three counts.
@@ -28,7 +28,9 @@ pub extern "C" fn pipeshear_call<'a>(
     out: &mut [u8],
     counts: &mut [usize],
 ) -> u8
-    ensures { λ r. ⌜ Promised (now (card .entry)) (callOf (now (command .entry)) (now (tray .entry)) (now («data» .entry)) (now (out .entry))) (now (counts .entry)) r (now (card .exit)) (now (out .exit)) (now (counts .exit)) ⌝ }
+    ensures { λ r. ⌜ EntryPromise (now (card .entry))
+        (callOf (now (command .entry)) (now (tray .entry)) (now («data» .entry)) (now (out .entry))) (now (counts .entry))
+        r (now (card .exit)) (now (out .exit)) (now (counts .exit)) ⌝ }
 {
     if counts.len() != 3 {
         return 255;

@@ -23,21 +23,24 @@ ifEven j a b = choose (j % 2) a b
 abbrev pub at8 : List ℕ → ℕ → ℕ
 at8 l j = getD l (j % 8) 0
 
--- 7.3.5
-abbrev pub halves : ℕ → ℕ
-halves t = (t % 2 ^ 32) ⊕ (t / 2 ^ 32)
+-- the low 32 digits of t and those above them, added digit by digit
+abbrev pub folded : ℕ → ℕ
+folded t = (t % 2 ^ 32) ⊕ (t / 2 ^ 32)
 
+-- 7.3.5: g
 unfoldable pub g : ℕ → ℕ → ℕ
-g u v = halves ((u +₃₂ v) * (u +₃₂ v))
+g u v = folded ((u +₃₂ v) * (u +₃₂ v))
 
 -- 7.3.3, steps 2 to 4: bj is the carry into counter j, b0 the state's. temp has 33 bits where b is 0 or 1, and its digits above the lowest 32 are temp[32].
 unfoldable pub carryAt : List ℕ → ℕ → ℕ → ℕ
 carryAt c b zero = b
 carryAt c b (suc j) = (getD c j 0 + getD aList j 0 + carryAt c b j) / 2 ^ 32
 
+-- counter j after the step
 abbrev pub counterAt : List ℕ → ℕ → ℕ → ℕ
 counterAt c b j = (getD c j 0 + getD aList j 0 + carryAt c b j) % 2 ^ 32
 
+-- the counters after the step, and the carry out of the last
 unfoldable pub counted : List ℕ → ℕ → Counted
 counted c b = record { c = tab 8 (counterAt c b); b = carryAt c b 8 }
 
@@ -45,29 +48,33 @@ counted c b = record { c = tab 8 (counterAt c b); b = carryAt c b 8 }
 unfoldable pub gs : List ℕ → List ℕ → List ℕ
 gs x c = tab 8 (λ j. g (getD x j 0) (getD c j 0))
 
--- step 6, with j - 1 and j - 2 modulo 8
+-- step 6: Xj, with j - 1 and j - 2 modulo 8
 abbrev pub mixedAt : List ℕ → ℕ → ℕ
 mixedAt l j =
     ifEven j (at8 l j +₃₂ rotl 16 (at8 l (j + 7)) +₃₂ rotl 16 (at8 l (j + 6)))
     (at8 l j +₃₂ rotl 8 (at8 l (j + 7)) +₃₂ at8 l (j + 6))
 
+-- X0..X7
 unfoldable pub mixed : List ℕ → List ℕ
 mixed l = tab 8 (mixedAt l)
 
--- 7.3.3: Next, of the state variables and the counters after the step
+-- the state after the step, of the state variables before it and the counters after it
 abbrev pub nextOf : List ℕ → Counted → Rabbit
 nextOf x n = record { x = mixed (gs x (n .c)); c = n .c; b = n .b }
 
+-- 7.3.3: Next
 unfoldable pub next : Rabbit → Rabbit
 next s = nextOf (s .x) (counted (s .c) (s .b))
 
--- 7.3.4: Z, its four words of 32 bits, the lowest first
+-- a word of Z: the high half of v with the low one of w, above the low half of v with the high one of y
 abbrev pub part : ℕ → ℕ → ℕ → ℕ
 part v w y = (high v ⊕ low w) ∥ (low v ⊕ high y)
 
+-- 7.3.4: word j of Z, from the lowest
 abbrev pub strmAt : Rabbit → ℕ → ℕ
 strmAt s j = part (at8 (s .x) (2 * j)) (at8 (s .x) (2 * j + 3)) (at8 (s .x) (2 * j + 5))
 
+-- Z, its four words of 32 bits, the lowest first
 unfoldable pub strm : Rabbit → List ℕ
 strm s = tab 4 (strmAt s)
 
@@ -75,23 +82,27 @@ strm s = tab 4 (strmAt s)
 unfoldable pub halfAt : List ℕ → ℕ → ℕ
 halfAt s i = getD s (i + 1) 0 * 2 ^ 8 + getD s i 0
 
--- 7.3.2, step 1: K0..K7; and the like of an IV
+-- 7.3.2, step 1: K0..K7
 unfoldable pub parts8 : List ℕ → List ℕ
 parts8 k = tab 8 (λ j. halfAt k (2 * j))
 
+-- the four parts of 16 bits of an IV
 unfoldable pub parts4 : List ℕ → List ℕ
 parts4 iv = tab 4 (λ j. halfAt iv (2 * j))
 
--- step 2, of K0..K7
+-- step 2: Xj, of K0..K7
 abbrev pub xAt : List ℕ → ℕ → ℕ
 xAt k j = ifEven j (at8 k (j + 1) ∥ at8 k j) (at8 k (j + 5) ∥ at8 k (j + 4))
 
+-- step 2: Cj
 abbrev pub cAt : List ℕ → ℕ → ℕ
 cAt k j = ifEven j (at8 k (j + 4) ∥ at8 k (j + 5)) (at8 k j ∥ at8 k (j + 1))
 
+-- step 2, with a carry of 0
 unfoldable pub arranged : List ℕ → Rabbit
 arranged k = record { x = tab 8 (xAt k); c = tab 8 (cAt k); b = 0 }
 
+-- steps 1 and 2
 unfoldable pub loaded : List ℕ → Rabbit
 loaded k = arranged (parts8 k)
 
@@ -99,13 +110,15 @@ loaded k = arranged (parts8 k)
 unfoldable pub master : List ℕ → Rabbit
 master k = iter 4 next (loaded k)
 
--- step 4, of IV[15..0], IV[31..16], IV[47..32] and IV[63..48]
+-- step 4.1: the four words that it adds, of IV[15..0], IV[31..16], IV[47..32] and IV[63..48]
 unfoldable pub ivWords : List ℕ → List ℕ
 ivWords h = (getD h 1 0 ∥ getD h 0 0) ∷ (getD h 3 0 ∥ getD h 1 0) ∷ (getD h 3 0 ∥ getD h 2 0) ∷ (getD h 2 0 ∥ getD h 0 0) ∷ []
 
+-- step 4.1: C0..C7, each with X four places on and with a word of v
 unfoldable pub modified : List ℕ → List ℕ → List ℕ → List ℕ
 modified x c v = tab 8 (λ j. getD c j 0 ⊕ at8 x (j + 4) ⊕ getD v (j % 4) 0)
 
+-- step 4
 unfoldable pub withIv : Rabbit → List ℕ → Rabbit
 withIv s iv = record { x = s .x; c = modified (s .x) (s .c) (ivWords (parts4 iv)); b = s .b }
 

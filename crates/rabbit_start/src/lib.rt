@@ -1,11 +1,12 @@
 // The start of Rabbit from key and IV (ISO/IEC 18033-4, Amd 1:2009, 7.3.2): the state of a key, with an IV in its counters, and S(0).
-// A caller holds the lengths of key and IV, sixteen bytes and eight.
+// The caller must ensure the lengths of key and IV, sixteen bytes and eight.
 ghost use mathlib.Core.Path.{_≡_};
 ghost use Prim.Native.Nat.{_+_, _≤_};
 ghost use lib.ListN.{length};
 ghost use Rattle.words.specs.Word.{_∥_};
 ghost use Rattle.words.specs.Lists.{iter};
-ghost use Rattle.rabbit.specs.Cipher.{next, halfAt, parts8 as parts8Of, parts4 as parts4Of, arranged, loaded, master as masterOf, ivWords, modified, withIv, started, init as initOf};
+ghost use Rattle.rabbit.specs.Cipher.{next, halfAt, parts8 as parts8Of, parts4 as parts4Of, arranged, loaded, master as masterOf};
+ghost use Rattle.rabbit.specs.Cipher.{ivWords, modified, withIv, started, init as initOf};
 use rabbit::Rabbit;
 
 // The 16 bits whose low byte is s[i].

@@ -1,10 +1,9 @@
 // Rabbit over a text: a buffer of keystream to a turn, whole units by `fill`, and the tail's unit without a step.
-// A caller holds that the place in the unit is one of its sixteen bytes and that the text fits the buffer.
+// The caller must ensure that the place in the unit is one of its sixteen bytes and that the text fits the buffer.
 ghost use mathlib.Core.Path.{_≡_};
-ghost use mathlib.Core.List.{_++_};
-ghost use Prim.Native.Nat.{_+_, _/_, _≤_, _<_};
-ghost use lib.ListN.{length, drop};
-ghost use Rattle.keystream.specs.Stream.{stateAt, byteAt, xorFrom, Did};
+ghost use Prim.Native.Nat.{_+_, _≤_, _<_};
+ghost use lib.ListN.{length};
+ghost use Rattle.keystream.specs.Stream.{TextCrypted, PartCrypted};
 ghost use Rattle.rabbit.specs.Generator.{gen};
 use rabbit::Rabbit;
 use rabbit_units::fill;
@@ -13,7 +12,7 @@ use rabbit_units::unit;
 // used bytes of text, from byte from of the unit of st on; ks takes the keystream.
 fn turn(st: Rabbit, ks: &mut [u8], from: usize, used: usize, text: &[u8], out: &mut [u8]) -> Rabbit
     requires { ⌜ (length (now ks) ≡ 256) × ((from + used ≤ 256) × ((used ≤ length (now text)) × (used ≤ length (now out)))) ⌝ }
-    ensures { λ r. ⌜ Did gen from st used (now (text .entry)) (now (out .entry)) r (now (out .exit)) ⌝ }
+    ensures { λ r. ⌜ PartCrypted gen from st used (now (text .entry)) (now (out .entry)) r (now (out .exit)) ⌝ }
 {
     let end = from + used;
     let whole = end - end % 16;
@@ -29,7 +28,7 @@ fn turn(st: Rabbit, ks: &mut [u8], from: usize, used: usize, text: &[u8], out: &
 // which the next byte lies.
 pub fn crypt(st: Rabbit, skip: usize, text: &[u8], out: &mut [u8]) -> Rabbit
     requires { ⌜ (skip < 16) × (length (now text) ≤ length (now out)) ⌝ }
-    ensures { λ r. ⌜ (r ≡ stateAt gen st 0 ((skip + length (now (text .entry))) / 16)) × (now (out .exit) ≡ xorFrom (byteAt gen st 0) skip (now (text .entry)) ++ drop (length (now (text .entry))) (now (out .entry))) ⌝ }
+    ensures { λ r. ⌜ TextCrypted gen skip st (now (text .entry)) (now (out .entry)) r (now (out .exit)) ⌝ }
 {
     let count = text.len();
     let mut ks = [0u8; 256];

@@ -1,5 +1,5 @@
 // Units of Rabbit's keystream in a buffer: one, and a buffer full.
-// A caller holds that the buffer has the bytes.
+// The caller must ensure that the buffer has the bytes.
 ghost use mathlib.Core.Path.{_≡_};
 ghost use mathlib.Core.List.{_++_};
 ghost use Prim.Native.Nat.{_%_, _≤_};

@@ -10,11 +10,11 @@ use Rattle.keystream.proofs.Parts.{put-tail, tail-part}
 use Rattle.machine.specs.Machine.{Call, cardStep}
 use Rattle.card_outcome.specs.declared.Outcome.{Outcome}
 use Rattle.card_outcome.specs.Outcomes.{outcomeOf}
-use Rattle.card_outcome.specs.Leaves.{callOf, outOf, Called}
+use Rattle.card_outcome.specs.Leaves.{callOf, outOf, CallLeaves}
 use Rattle.card.specs.declared.Answer.{Answer}
-use Rattle.card.specs.Ran.{seenOf, Promised}
+use Rattle.card.specs.Ran.{seenOf, CallPromise}
 use Rattle.card.proofs.Calls.{called}
-use Rattle.session_table.specs.Table.{Behind, rowOf}
+use Rattle.session_table.specs.Table.{Behind, callRow}
 use Rattle.session.specs.declared.Progress.{Progress}
 use Rattle.session.specs.Session.{made}
 use Rattle.session.specs.Progress.{here, next, Turned}
@@ -39,17 +39,17 @@ after p r e =
 
 module _ (p : Progress) (commands tray text out : List ℕ) (r : Answer) (ys : List ℕ) where
   abbrev pub Given : Type 0
-  Given = Promised (p .card) (callOf (part (p .command) commands) tray (part (p .«data») text) (part (p .out) out)) r ys
+  Given = CallPromise (p .card) (callOf (part (p .command) commands) tray (part (p .«data») text) (part (p .out) out)) r ys
 
   module _ (g : Given) where
-    answered : Called (p .card .words) (here p commands tray text out) (r .outcome) (r .card .words) ys
+    answered : CallLeaves (p .card .words) (here p commands tray text out) (r .outcome) (r .card .words) ys
     unfolding here
     answered =
-        subst (λ (a : Call). Called (p .card .words) a (r .outcome) (r .card .words) ys)
+        subst (λ (a : Call). CallLeaves (p .card .words) a (r .outcome) (r .card .words) ys)
         (λ i. callOf (tail-part (p .command) commands i) tray (tail-part (p .«data») text i) (tail-part (p .out) out i)) (called (p .card) _ r ys g)
 
     pub turned : (table table' : List ℕ) (e : ℕ) → p .out ≤ length out →
-        Behind (rowOf (p .calls + 1) (r .outcome .code) (r .outcome .«used_command») (r .outcome .«used_data») (r .outcome .written)) (p .table) table table' e →
+        Behind (callRow (p .calls + 1) (r .outcome .code) (r .outcome .«used_command») (r .outcome .«used_data») (r .outcome .written)) (p .table) table table' e →
         Turned p commands tray text out table (after p r e) (putMid (p .out) (length out - p .out) out ys) table'
     unfolding next made outcomeOf outOf
     turned table table' e h b =
@@ -63,7 +63,7 @@ module _ (p : Progress) (commands tray text out : List ℕ) (r : Answer) (ys : L
           code-is = ap (λ (x : Outcome). x .code) a;
           out-is = put-tail (p .out) out ys h ∙ ap (λ (l : List ℕ). take (p .out) out ++ l) (answered .out-is);
           table-is =
-              subst (λ (x : Outcome). Behind (rowOf (p .calls + 1) (r .outcome .code) (x .«used_command») (x .«used_data») (x .written)) (p .table) table table' e) a b;
+              subst (λ (x : Outcome). Behind (callRow (p .calls + 1) (r .outcome .code) (x .«used_command») (x .«used_data») (x .written)) (p .table) table table' e) a b;
         }
 
     -- no more is used than is left
@@ -84,7 +84,7 @@ module _ (p : Progress) (commands tray text out : List ℕ) (r : Answer) (ys : L
     pub out-within : length ys ≡ length (part (p .out) out) → r .outcome .written ≤ length (drop (p .out) out)
     unfolding outcomeOf outOf
     out-within k =
-        let w = cardStep (seenOf (p .card)) (here p commands tray text out) .outcome .written in
+        let w = cardStep (seenOf (p .card)) (here p commands tray text out) .outcome .output in
         let e = ap (λ (x : Outcome). x .written) (answered .outcome-is) in
         let l : length ys ≡ length (w ++ drop (length w) (here p commands tray text out .out)) = ap length (answered .out-is) in
         let f = ap length (tail-part (p .out) out) in

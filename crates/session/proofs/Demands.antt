@@ -20,7 +20,7 @@ use Rattle.machine.specs.Steps.{Steps, none, step}
 use Rattle.machine.proofs.Steps.{steps-one-stream, steps-counted, steps-parked-calls}
 use Rattle.ciphers.proofs.States.{all-take}
 use Rattle.session.specs.declared.Ended.{Ended}
-use Rattle.session.specs.Progress.{Promised}
+use Rattle.session.specs.Progress.{RunPromise}
 use Rattle.session.specs.Session.{made, rest, calls, readLength, lent, session}
 use Rattle.session.proofs.Bounds.{bounded}
 
@@ -56,7 +56,7 @@ module _ (commands tray text out : List ℕ) (p : All Byte (take readLength comm
   session-parked-calls = steps-parked-calls (session commands tray text out) all-steps
 
 -- Demand 3 of every run of the program, by its promise alone, and what becomes of its parked calls.
-module _ {commands tray text out table out' table' : List ℕ} {r : Ended} (h : Promised commands tray text out table out' table' r) where
+module _ {commands tray text out table out' table' : List ℕ} {r : Ended} (h : RunPromise commands tray text out table out' table' r) where
   pub run-one-stream : OneStream (session commands tray text out)
   run-one-stream = session-one-stream commands tray text out (all-take readLength (h .command-bytes)) (all-take readLength (h .tray-bytes))
 

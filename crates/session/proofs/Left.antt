@@ -10,7 +10,7 @@ use lib.Seq.{take-at}
 use Rattle.machine.specs.Logs.{Made}
 use Rattle.session.specs.declared.Ended.{Ended}
 use Rattle.session.specs.Session.{writtenBy, tableOf}
-use Rattle.session.specs.Progress.{Leaves}
+use Rattle.session.specs.Progress.{RunLeaves}
 
 -- what stands at the start of a buffer has as many bytes as it says
 front : (l p rest : List ℕ) (n : ℕ) → n ≡ length p → l ≡ p ++ rest → n ≡ length (take n l)
@@ -20,7 +20,7 @@ front l p rest n e h = e ∙ ap length (sym (ap (take n) h ∙ take-at p rest n 
 within : (l : List ℕ) (n : ℕ) → n ≡ length (take n l) → n ≤ length l
 within l n e = omega (arith, length-take n l, min-le-right n (length l))
 
-module _ {xs : List Made} {out table out' table' : List ℕ} {r : Ended} (h : Leaves xs out table out' table' r) where
+module _ {xs : List Made} {out table out' table' : List ℕ} {r : Ended} (h : RunLeaves xs out table out' table' r) where
   pub out-front : r .written ≡ length (take (r .written) out')
   out-front = front out' (writtenBy xs) (drop (r .written) out) (r .written) (h .written) (h .out-is)
 

@@ -21,10 +21,10 @@ use Rattle.card_outcome.specs.Leaves.{callOf}
 use Rattle.card.specs.Ran.{seenOf}
 use Rattle.decimal.specs.Decimal.{decimal}
 use Rattle.decimal.proofs.Digits.{digits-few}
-use Rattle.session_table.specs.Table.{Behind, figure, space, newline, columns, rowOf, endOf, acceptedOf}
+use Rattle.session_table.specs.Table.{Behind, figure, space, newline, columns, callRow, endOf, acceptedOf}
 use Rattle.session.specs.declared.Progress.{Progress}
-use Rattle.session.specs.Session.{made, rest, calls, readLength, writtenBy, accepted, lastCode, rowsFrom, tableOf, session}
-use Rattle.session.specs.Progress.{startOf, here, next, Ready, Turned, Sizes, Finished, Leaves}
+use Rattle.session.specs.Session.{made, rest, calls, readLength, writtenBy, acceptedCount, lastCode, rowsFrom, tableOf, session}
+use Rattle.session.specs.Progress.{startOf, here, next, Ready, Turned, Sizes, Finished, RunLeaves}
 use Rattle.session_table.proofs.Text.{behind-front, behind-rest, behind-length}
 use Rattle.session.proofs.Bounds.{bounded, code-few}
 
@@ -51,8 +51,8 @@ figure-few : (n e : ℕ) → n < 100000 → length (figure n e) ≤ 6
 figure-few n e h = let d : length (decimal n) ≤ 5 = digits-few 4 20 n h in omega (arith, length-append (decimal n) (e ∷ []))
 
 row-few : (i code command text written : ℕ) → i < 100000 → code < 100000 → command < 100000 → text < 100000 → written < 100000 →
-    length (rowOf i code command text written) ≤ 32
-unfolding rowOf
+    length (callRow i code command text written) ≤ 32
+unfolding callRow
 row-few i k c d w hi hk hc hd hw =
     let a = figure i space in
     let b = figure k space in
@@ -100,7 +100,7 @@ module _ (commands tray text out₀ table₀ : List ℕ) where
     pub unwritten : drop (p .out) out ≡ drop (p .out) out₀
     pub rows : take (p .table) table ++ rowsFrom (p .calls + 1) (left p out) ≡ columns ++ rowsFrom 1 all
     pub unprinted : drop (p .table) table ≡ drop (p .table) table₀
-    pub count : acceptedOf (p .calls) (p .code) + accepted (left p out) ≡ accepted all
+    pub count : acceptedOf (p .calls) (p .code) + acceptedCount (left p out) ≡ acceptedCount all
     pub last-code : lastCode (p .code) (left p out) ≡ lastCode 0 all
 
   module _ (sizes : Sizes commands text out₀ table₀) (p : Progress) (out table : List ℕ) (s : Sofar p out table) (zero-code : p .code ≡ 0) (more : p .command < length commands) where
@@ -128,7 +128,7 @@ module _ (commands tray text out₀ table₀ : List ℕ) where
     written-in : x .out ≡ take (x .written) (x .out) ++ drop (x .written) (h .out)
     unfolding next made
     written-in =
-        let w = cardStep (seenOf (p .card)) h .outcome .written in
+        let w = cardStep (seenOf (p .card)) h .outcome .output in
         ap (λ (l : List ℕ). l ++ drop (length w) (h .out)) (sym (take-at w (drop (length w) (h .out)) (length w) refl))
 
     command-left : length (h .command) ≡ length commands - p .command
@@ -179,7 +179,7 @@ module _ (commands tray text out₀ table₀ : List ℕ) where
       written-fits : x .written ≤ length (x .out)
       unfolding next made
       written-fits =
-          let w = cardStep (seenOf (p .card)) h .outcome .written in
+          let w = cardStep (seenOf (p .card)) h .outcome .output in
           omega (arith, length-append w (drop (length w) (h .out)))
 
       out-fits : p .out + x .written ≤ length out
@@ -192,7 +192,7 @@ module _ (commands tray text out₀ table₀ : List ℕ) where
       unfolding here
       text-left = length-drop (p .«data») text
 
-      row-fits : length (rowOf (p .calls + 1) (q .code) (x .used-command) (x .used-data) (x .written)) ≤ 32
+      row-fits : length (callRow (p .calls + 1) (q .code) (x .used-command) (x .used-data) (x .written)) ≤ 32
       row-fits =
           let n = calls-below in
           let w = within in
@@ -237,7 +237,7 @@ module _ (commands tray text out₀ table₀ : List ℕ) where
       rows-more : take (q .table) table' ++ rowsFrom (q .calls + 1) (left q out') ≡ columns ++ rowsFrom 1 all
       unfolding rowsFrom
       rows-more =
-          let r : ℕ → List ℕ = λ k. rowOf (p .calls + 1) k (x .used-command) (x .used-data) (x .written) in
+          let r : ℕ → List ℕ = λ k. callRow (p .calls + 1) k (x .used-command) (x .used-data) (x .written) in
           let n : q .calls + 1 ≡ suc (p .calls + 1) = let e = t .calls-is in omega arith in
           ap₂ (λ (l : List ℕ) (k : ℕ). l ++ rowsFrom k (left q out')) (behind-front (t .table-is)) n
           ∙ append-assoc (take (p .table) table) (r (q .code)) (rowsFrom (suc (p .calls + 1)) (left q out'))
@@ -246,20 +246,20 @@ module _ (commands tray text out₀ table₀ : List ℕ) where
 
       unprinted-more : drop (q .table) table' ≡ drop (q .table) table₀
       unprinted-more =
-          let r = rowOf (p .calls + 1) (q .code) (x .used-command) (x .used-data) (x .written) in
+          let r = callRow (p .calls + 1) (q .code) (x .used-command) (x .used-data) (x .written) in
           let e = t .table-is .end in
           behind-rest (t .table-is) (q .table) (omega arith)
           ∙ ap (λ (n : ℕ). drop n table) e ∙ sym (drop-drop (length r) (p .table) table)
           ∙ ap (drop (length r)) (s .unprinted) ∙ drop-drop (length r) (p .table) table₀ ∙ ap (λ (n : ℕ). drop n table₀) (sym e)
 
-      count-more : acceptedOf (q .calls) (q .code) + accepted (left q out') ≡ accepted all
-      unfolding acceptedOf accepted
+      count-more : acceptedOf (q .calls) (q .code) + acceptedCount (left q out') ≡ acceptedCount all
+      unfolding acceptedOf acceptedCount
       count-more =
           by (eqb (q .code) 0)
-          ∙ (λ i. acceptedOf (p .calls) (p .code) + (pick (eqb (t .code-is i) 0) 1 0 + accepted (left q out')))
-          ∙ ap (λ (xs : List Made). acceptedOf (p .calls) (p .code) + accepted xs) (sym left-is) ∙ s .count
+          ∙ (λ i. acceptedOf (p .calls) (p .code) + (pick (eqb (t .code-is i) 0) 1 0 + acceptedCount (left q out')))
+          ∙ ap (λ (xs : List Made). acceptedOf (p .calls) (p .code) + acceptedCount xs) (sym left-is) ∙ s .count
         where
-          by : (b : Bool) → pick b (q .calls) (q .calls - 1) + accepted (left q out') ≡ acceptedOf (p .calls) (p .code) + (pick b 1 0 + accepted (left q out'))
+          by : (b : Bool) → pick b (q .calls) (q .calls - 1) + acceptedCount (left q out') ≡ acceptedOf (p .calls) (p .code) + (pick b 1 0 + acceptedCount (left q out'))
           by true = omega (arith, t .calls-is, all-accepted)
           by false = omega (arith, t .calls-is, all-accepted)
 
@@ -314,7 +314,7 @@ module _ (commands tray text out₀ table₀ : List ℕ) where
         unwritten = refl;
         rows = ap (λ (l : List ℕ). l ++ rowsFrom 1 all) (z .named);
         unprinted = refl;
-        count = zero-add (accepted all);
+        count = zero-add (acceptedCount all);
         last-code = refl;
       }
 
@@ -330,7 +330,7 @@ module _ (commands tray text out₀ table₀ : List ℕ) where
 
   pub sofar-end : Sizes commands text out₀ table₀ → (p : Progress) (out table : List ℕ) → Sofar p out table → (p .code ≡ 0 → length commands ≤ p .command) →
       Finished commands tray text out₀ table₀ p out table
-  unfolding writtenBy rowsFrom accepted lastCode
+  unfolding writtenBy rowsFrom acceptedCount lastCode
   sofar-end z p out table s f =
       let e = none-left p out f in
       record {
@@ -341,7 +341,7 @@ module _ (commands tray text out₀ table₀ : List ℕ) where
         unprinted = s .unprinted;
         table-in = omega (arith, s .table-in, s .table-length, s .used, s .command-in, z .commands-few, accepted-most (p .calls) (p .code));
         count = (let k : acceptedOf (p .calls) (p .code) ≡ acceptedOf (p .calls) (p .code) + 0 = omega arith in k)
-            ∙ ap (λ (xs : List Made). acceptedOf (p .calls) (p .code) + accepted xs) (sym e) ∙ s .count;
+            ∙ ap (λ (xs : List Made). acceptedOf (p .calls) (p .code) + acceptedCount xs) (sym e) ∙ s .count;
         last-code = ap (lastCode (p .code)) (sym e) ∙ s .last-code;
       }
 
@@ -369,21 +369,21 @@ unprinted-all table table₁ n l m et en =
 
 pub leaves : (commands tray text out table c t d : List ℕ) → c ≡ take readLength commands → t ≡ take readLength tray → d ≡ take readLength text →
     (p : Progress) (out' table₁ table₂ table' : List ℕ) (k e : ℕ) → length out' ≡ length out → table₁ ≡ columns ++ drop 23 table → Finished c t d out table₁ p out' table₂ →
-    k ≡ acceptedOf (p .calls) (p .code) → Behind (endOf k (p .code)) (p .table) table₂ table' e → Leaves (session commands tray text out) out table out' table' (record { written = p .out; printed = e })
+    k ≡ acceptedOf (p .calls) (p .code) → Behind (endOf k (p .code)) (p .table) table₂ table' e → RunLeaves (session commands tray text out) out table out' table' (record { written = p .out; printed = e })
 unfolding tableOf
 leaves commands tray text out table c t d ec et ed p out' table₁ table₂ table' k e l named f ek b =
     let xs = session commands tray text out in
     let same : calls readLength freshCard (callOf c t d out) ≡ xs = λ i. calls readLength freshCard (callOf (ec i) (et i) (ed i) out) in
     let bytes : take (p .out) out' ≡ writtenBy xs = f .bytes ∙ ap writtenBy same in
     let rows : take (p .table) table₂ ≡ columns ++ rowsFrom 1 xs = f .rows ∙ ap (λ (ys : List Made). columns ++ rowsFrom 1 ys) same in
-    let last : endOf k (p .code) ≡ endOf (accepted xs) (lastCode 0 xs) =
-    ap₂ endOf (ek ∙ f .count ∙ ap accepted same) (f .last-code ∙ ap (lastCode 0) same) in
+    let last : endOf k (p .code) ≡ endOf (acceptedCount xs) (lastCode 0 xs) =
+    ap₂ endOf (ek ∙ f .count ∙ ap acceptedCount same) (f .last-code ∙ ap (lastCode 0) same) in
     let text-is : take e table' ≡ tableOf xs = behind-front b ∙ ap₂ _++_ rows last in
     let printed-is : e ≡ length (tableOf xs) = sym (length-take-le e table' (omega (arith, b .fits, behind-length b))) ∙ ap length text-is in
     let n = length (endOf k (p .code)) in
     let rest : drop e table' ≡ drop e table =
     behind-rest b e (omega arith) ∙ ap (λ (x : ℕ). drop x table₂) (b .end) ∙ sym (drop-drop n (p .table) table₂) ∙ ap (drop n) (f .unprinted) ∙ drop-drop n (p .table) table₁
-    ∙ ap (λ (x : ℕ). drop x table₁) (sym (b .end)) ∙ unprinted-all table table₁ e (rowsFrom 1 xs) (endOf (accepted xs) (lastCode 0 xs)) named printed-is in
+    ∙ ap (λ (x : ℕ). drop x table₁) (sym (b .end)) ∙ unprinted-all table table₁ e (rowsFrom 1 xs) (endOf (acceptedCount xs) (lastCode 0 xs)) named printed-is in
     record {
       written = sym (length-take-le (p .out) out' (omega (arith, l, f .out-in))) ∙ ap length bytes;
       out-is = sym (take-append-drop (p .out) out') ∙ ap₂ _++_ bytes (f .unwritten);

@@ -9,10 +9,10 @@ use Rattle.machine.specs.Machine.{Call, freshCard}
 use Rattle.machine.specs.Logs.{Made}
 use Rattle.card_outcome.specs.Leaves.{callOf}
 use Rattle.card.specs.Ran.{seenOf, fresh}
-use Rattle.session_table.specs.Table.{Behind, columns, rowOf, acceptedOf}
+use Rattle.session_table.specs.Table.{Behind, columns, callRow, acceptedOf}
 use Rattle.session.specs.declared.Progress.{Progress}
 use Rattle.session.specs.declared.Ended.{Ended}
-use Rattle.session.specs.Session.{made, calls, readLength, writtenBy, accepted, lastCode, rowsFrom, tableOf, session}
+use Rattle.session.specs.Session.{made, calls, readLength, writtenBy, acceptedCount, lastCode, rowsFrom, tableOf, session}
 
 -- a run at its start, whose table has so many bytes
 abbrev pub startOf : ℕ → Progress
@@ -44,7 +44,7 @@ pub record Turned (p : Progress) (commands tray text out table : List ℕ) (q : 
   pub calls-is : q .calls ≡ p .calls + 1
   pub code-is : q .code ≡ next p commands tray text out .code
   pub out-is : out' ≡ take (p .out) out ++ next p commands tray text out .out
-  pub table-is : Behind (rowOf (p .calls + 1) (q .code) (next p commands tray text out .used-command) (next p commands tray text out .used-data) (next p commands tray text out .written)) (p .table) table table' (q .table)
+  pub table-is : Behind (callRow (p .calls + 1) (q .code) (next p commands tray text out .used-command) (next p commands tray text out .used-data) (next p commands tray text out .written)) (p .table) table table' (q .table)
 
 -- what bounds a run: the parts of the files that are read, out, and a table that begins with the column names and has room for the longest run
 pub record Sizes (commands text out table : List ℕ) : Type 0 where
@@ -62,18 +62,18 @@ pub record Finished (commands tray text out table : List ℕ) (p : Progress) (ou
   pub rows : take (p .table) table' ≡ columns ++ rowsFrom 1 (calls readLength freshCard (callOf commands tray text out))
   pub unprinted : drop (p .table) table' ≡ drop (p .table) table
   pub table-in : p .table + 46 ≤ length table'
-  pub count : acceptedOf (p .calls) (p .code) ≡ accepted (calls readLength freshCard (callOf commands tray text out))
+  pub count : acceptedOf (p .calls) (p .code) ≡ acceptedCount (calls readLength freshCard (callOf commands tray text out))
   pub last-code : p .code ≡ lastCode 0 (calls readLength freshCard (callOf commands tray text out))
 
 -- what a run leaves in out and in the table, each whole: what is behind the written bytes and behind the printed text stays
-pub record Leaves (xs : List Made) (out table out' table' : List ℕ) (r : Ended) : Type 0 where
+pub record RunLeaves (xs : List Made) (out table out' table' : List ℕ) (r : Ended) : Type 0 where
   pub written : r .written ≡ length (writtenBy xs)
   pub out-is : out' ≡ writtenBy xs ++ drop (r .written) out
   pub printed : r .printed ≡ length (tableOf xs)
   pub table-is : table' ≡ tableOf xs ++ drop (r .printed) table
 
 -- the promise of a run: what it leaves, and that the files' contents that it was lent are bytes
-pub record Promised (commands tray text out table out' table' : List ℕ) (r : Ended) : Type 0 where
-  pub left : Leaves (session commands tray text out) out table out' table' r
+pub record RunPromise (commands tray text out table out' table' : List ℕ) (r : Ended) : Type 0 where
+  pub left : RunLeaves (session commands tray text out) out table out' table' r
   pub command-bytes : All Byte commands
   pub tray-bytes : All Byte tray

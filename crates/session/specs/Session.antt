@@ -8,7 +8,7 @@ use lib.ListN.{length, take, drop}
 use Rattle.words.specs.Tests.{pick}
 use Rattle.machine.specs.Machine.{Call, Seen, cardStep, freshCard}
 use Rattle.machine.specs.Logs.{Made, madeOf}
-use Rattle.session_table.specs.Table.{columns, rowOf, endOf}
+use Rattle.session_table.specs.Table.{columns, callRow, endOf}
 
 -- ---- the calls
 
@@ -53,9 +53,9 @@ writtenBy [] = []
 writtenBy (x ∷ xs) = take (x .written) (x .out) ++ writtenBy xs
 
 -- accepted calls
-unfoldable pub accepted : List Made → ℕ
-accepted [] = 0
-accepted (x ∷ xs) = pick (eqb (x .code) 0) 1 0 + accepted xs
+unfoldable pub acceptedCount : List Made → ℕ
+acceptedCount [] = 0
+acceptedCount (x ∷ xs) = pick (eqb (x .code) 0) 1 0 + acceptedCount xs
 
 -- the last code after the code k
 unfoldable pub lastCode : ℕ → List Made → ℕ
@@ -67,8 +67,8 @@ lastCode k (x ∷ xs) = lastCode (x .code) xs
 -- a line for each call, the first numbered i
 unfoldable pub rowsFrom : ℕ → List Made → List ℕ
 rowsFrom i [] = []
-rowsFrom i (x ∷ xs) = rowOf i (x .code) (x .used-command) (x .used-data) (x .written) ++ rowsFrom (suc i) xs
+rowsFrom i (x ∷ xs) = callRow i (x .code) (x .used-command) (x .used-data) (x .written) ++ rowsFrom (suc i) xs
 
 -- the table: column names, a line for each call, the last line
 unfoldable pub tableOf : List Made → List ℕ
-tableOf xs = (columns ++ rowsFrom 1 xs) ++ endOf (accepted xs) (lastCode 0 xs)
+tableOf xs = (columns ++ rowsFrom 1 xs) ++ endOf (acceptedCount xs) (lastCode 0 xs)

@@ -1,9 +1,9 @@
-// A run of the program: commands are run until the end or the first refusal (document 01, `cardrun`), the written bytes joined in one buffer and the table of calls
-// written to another.
+// A run of the program: commands are run until the end or the first refusal (document 01, `cardrun`), the written bytes joined in one
+// buffer and the table of calls written to another.
 ghost use mathlib.Core.Path.{_≡_};
 ghost use lib.ListN.{take};
 ghost use Rattle.session.specs.Session.{readLength};
-ghost use Rattle.session.specs.Progress.{startOf, Ready, Turned, Sizes, Finished, Promised};
+ghost use Rattle.session.specs.Progress.{startOf, Ready, Turned, Sizes, Finished, RunPromise};
 use card::Card;
 use session_table::accepted_of;
 use session_table::put_end;
@@ -44,7 +44,8 @@ fn turn<'a>(
     table: &mut [u8],
 ) -> Progress
     requires { ⌜ Ready p (now commands) (now text) (now out) (now table) ⌝ }
-    ensures { λ r. ⌜ Turned p (now (commands .entry)) (now (tray .entry)) (now (text .entry)) (now (out .entry)) (now (table .entry)) r (now (out .exit)) (now (table .exit)) ⌝ }
+    ensures { λ r. ⌜ Turned p (now (commands .entry)) (now (tray .entry)) (now (text .entry)) (now (out .entry)) (now (table .entry))
+        r (now (out .exit)) (now (table .exit)) ⌝ }
 {
     let i = p.command;
     let j = p.data;
@@ -99,7 +100,8 @@ fn run_calls<'a>(
     table: &mut [u8],
 ) -> Progress
     requires { ⌜ Sizes (now commands) (now text) (now out) (now table) ⌝ }
-    ensures { λ r. ⌜ Finished (now (commands .entry)) (now (tray .entry)) (now (text .entry)) (now (out .entry)) (now (table .entry)) r (now (out .exit)) (now (table .exit)) ⌝ }
+    ensures { λ r. ⌜ Finished (now (commands .entry)) (now (tray .entry)) (now (text .entry)) (now (out .entry)) (now (table .entry))
+        r (now (out .exit)) (now (table .exit)) ⌝ }
 {
     let n = commands.len();
     let mut p = start(23);
@@ -126,7 +128,8 @@ pub fn run<'a>(
     out: &mut [u8; OUT],
     table: &mut [u8; TABLE],
 ) -> Ended
-    ensures { λ r. ⌜ Promised (now (commands .entry)) (now (tray .entry)) (now («data» .entry)) (now (out .entry)) (now (table .entry)) (now (out .exit)) (now (table .exit)) r ⌝ }
+    ensures { λ r. ⌜ RunPromise (now (commands .entry)) (now (tray .entry)) (now («data» .entry)) (now (out .entry))
+        (now (table .entry)) (now (out .exit)) (now (table .exit)) r ⌝ }
 {
     let c = first(commands);
     let t = first(tray);

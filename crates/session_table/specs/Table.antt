@@ -38,8 +38,8 @@ abbrev pub last : List ℕ
 last = 101 ∷ 110 ∷ 100 ∷ 32 ∷ []
 
 -- call number, code, bytes used of command and data, bytes written
-unfoldable pub rowOf : (i code command text written : ℕ) → List ℕ
-rowOf i code command text written =
+unfoldable pub callRow : (i code command text written : ℕ) → List ℕ
+callRow i code command text written =
     (((figure i space ++ figure code space) ++ figure command space) ++ figure text space) ++ figure written newline
 
 -- the last line: accepted calls, last code

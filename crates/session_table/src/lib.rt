@@ -1,8 +1,9 @@
-// The table that the program prints: a figure, a call's line and the last line, each behind what stands before it in a buffer; and how many calls were accepted.
+// The table that the program prints: a figure, a call's line and the last line, each behind what stands before it in a buffer; and how
+// many calls were accepted.
 ghost use mathlib.Core.Path.{_≡_};
 ghost use Prim.Native.Nat.{_+_, _≤_};
 ghost use lib.ListN.{length};
-ghost use Rattle.session_table.specs.Table.{Behind, figure, rowOf, endOf, acceptedOf};
+ghost use Rattle.session_table.specs.Table.{Behind, figure, callRow, endOf, acceptedOf};
 
 // A figure and the byte end go behind the first at bytes of out. Returns where they end.
 fn put_figure(n: u64, end: u8, at: usize, out: &mut [u8]) -> usize
@@ -23,7 +24,7 @@ pub fn put_row(
     out: &mut [u8],
 ) -> usize
     requires { ⌜ at + 105 ≤ length (now out) ⌝ }
-    ensures { λ r. ⌜ Behind (rowOf call code command text written) at (now (out .entry)) (now (out .exit)) r ⌝ }
+    ensures { λ r. ⌜ Behind (callRow call code command text written) at (now (out .entry)) (now (out .exit)) r ⌝ }
 {
     let a = put_figure(call as u64, 32, at, out);
     let b = put_figure(code as u64, 32, a, out);

@@ -16,7 +16,7 @@ use Rattle.snow2.specs.declared.Snow2.{Snow2}
 abbrev pub cell : Snow2 → ℕ → ℕ
 cell s i = getD (s .s) i 0
 
--- 8.2.8
+-- 8.2.8: FSM
 abbrev pub fsm : ℕ → ℕ → ℕ → ℕ
 fsm x y z = (x +₃₂ y) ⊕ z
 
@@ -24,7 +24,7 @@ fsm x y z = (x +₃₂ y) ⊕ z
 unfoldable pub f : Snow2 → ℕ
 f s = fsm (cell s 15) (s .r1) (s .r2)
 
--- 8.2.3 d): the word that comes in, in null mode; in INIT mode F is added
+-- 8.2.3 d), with the products of 8.2.6 and 8.2.7: the word that comes in, in null mode; in INIT mode F is added
 unfoldable pub fed : Snow2 → ℕ
 fed s = times field alpha (cell s 0) ⊕ cell s 2 ⊕ times field alphaInv (cell s 11)
 

@@ -1,5 +1,5 @@
 // The start of SNOW 2.0 from key and IV (ISO/IEC 18033-4, 8.2.2), with keys of 16 and of 32 bytes: the state before any step, and S(0).
-// A caller holds the lengths of key and IV, and lends the tables that `snow2_tables` and `field::tables::column` make.
+// The caller must ensure the lengths of key and IV, and passes by reference the tables that `snow2_tables` and `field::tables::column` make.
 ghost use mathlib.Core.Path.{_≡_};
 ghost use lib.ListN.{length};
 ghost use Rattle.words.specs.Word.{not32};

@@ -6,12 +6,12 @@ use Prim.Native.Nat.{ℕ}
 use Rattle.field.specs.Gf32.{Field}
 use Rattle.field.specs.Tables.{columnList}
 
--- the field of α: GF(2^8) over x^8 + x^7 + x^5 + x^3 + 1, and y^4 = x^23 y^3 + x^245 y^2 + x^48 y + x^239. No document prints them; the printed tables
+-- 8.2.6: the field of α, GF(2^8) over x^8 + x^7 + x^5 + x^3 + 1, and y^4 = x^23 y^3 + x^245 y^2 + x^48 y + x^239. No document prints them; the printed tables
 -- are their products.
 abbrev pub field : Field
 field = record { modulus = 0x1a9; y4 = 0xe19fcf13 }
 
--- α^-1, whose product with α is 1
+-- 8.2.7: α^-1, whose product with α is 1
 abbrev pub alphaInv : ℕ
 alphaInv = 0x180f40cd
 

@@ -1,10 +1,8 @@
 // SNOW 2.0 over a text: the tables made once, the rest of a begun unit, whole units four to a turn, and the tail.
-// A caller holds that the place in the unit is one of its four bytes and that the text fits the buffer.
-ghost use mathlib.Core.Path.{_≡_};
-ghost use mathlib.Core.List.{_++_};
-ghost use Prim.Native.Nat.{_+_, _/_, _≤_, _<_};
-ghost use lib.ListN.{length, drop};
-ghost use Rattle.keystream.specs.Stream.{stateAt, byteAt, xorFrom, Did};
+// The caller must ensure that the place in the unit is one of its four bytes and that the text fits the buffer.
+ghost use Prim.Native.Nat.{_≤_, _<_};
+ghost use lib.ListN.{length};
+ghost use Rattle.keystream.specs.Stream.{TextCrypted, PartCrypted};
 ghost use Rattle.snow2_tables.specs.Tables.{Lent};
 ghost use Rattle.snow2.specs.Generator.{gen};
 use snow2::Snow2;
@@ -23,7 +21,7 @@ fn ones(
 ) -> Snow2
     requires { ⌜ Lent (now a) (now ai) (now t) ⌝ }
     requires { ⌜ length (now text) ≤ length (now out) ⌝ }
-    ensures { λ r. ⌜ Did gen 0 st (length (now (text .entry))) (now (text .entry)) (now (out .entry)) r (now (out .exit)) ⌝ }
+    ensures { λ r. ⌜ PartCrypted gen 0 st (length (now (text .entry))) (now (text .entry)) (now (out .entry)) r (now (out .exit)) ⌝ }
 {
     let count = text.len();
     let mut cur = st;
@@ -46,7 +44,7 @@ fn fours(
 ) -> Snow2
     requires { ⌜ Lent (now a) (now ai) (now t) ⌝ }
     requires { ⌜ length (now text) ≤ length (now out) ⌝ }
-    ensures { λ r. ⌜ Did gen 0 st (length (now (text .entry))) (now (text .entry)) (now (out .entry)) r (now (out .exit)) ⌝ }
+    ensures { λ r. ⌜ PartCrypted gen 0 st (length (now (text .entry))) (now (text .entry)) (now (out .entry)) r (now (out .exit)) ⌝ }
 {
     let count = text.len();
     let mut cur = st;
@@ -62,7 +60,7 @@ fn fours(
 // which the next byte lies.
 pub fn crypt(st: Snow2, skip: usize, text: &[u8], out: &mut [u8]) -> Snow2
     requires { ⌜ (skip < 4) × (length (now text) ≤ length (now out)) ⌝ }
-    ensures { λ r. ⌜ (r ≡ stateAt gen st 0 ((skip + length (now (text .entry))) / 4)) × (now (out .exit) ≡ xorFrom (byteAt gen st 0) skip (now (text .entry)) ++ drop (length (now (text .entry))) (now (out .entry))) ⌝ }
+    ensures { λ r. ⌜ TextCrypted gen skip st (now (text .entry)) (now (out .entry)) r (now (out .exit)) ⌝ }
 {
     let a = snow2_tables::alpha();
     let ai = snow2_tables::inverse();

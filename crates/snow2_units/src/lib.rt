@@ -1,8 +1,8 @@
 // Units of the keystream of SNOW 2.0 over a text: one that is whole, four to a turn, and a part of one, each with the step after it.
-// A caller holds that the text and the buffer have the bytes, and lends the tables that `snow2_tables` and `field::tables::column` make.
+// The caller must ensure that the text and the buffer have the bytes, and passes by reference the tables that `snow2_tables` and `field::tables::column` make.
 ghost use Prim.Native.Nat.{_+_, _≤_};
 ghost use lib.ListN.{length};
-ghost use Rattle.keystream.specs.Stream.{Did};
+ghost use Rattle.keystream.specs.Stream.{PartCrypted};
 ghost use Rattle.snow2_tables.specs.Tables.{Lent};
 ghost use Rattle.snow2.specs.Generator.{gen};
 use snow2::Snow2;
@@ -18,7 +18,7 @@ pub fn unit(
 ) -> Snow2
     requires { ⌜ Lent (now a) (now ai) (now t) ⌝ }
     requires { ⌜ (4 ≤ length (now text)) × (4 ≤ length (now out)) ⌝ }
-    ensures { λ r. ⌜ Did gen 0 st 4 (now (text .entry)) (now (out .entry)) r (now (out .exit)) ⌝ }
+    ensures { λ r. ⌜ PartCrypted gen 0 st 4 (now (text .entry)) (now (out .entry)) r (now (out .exit)) ⌝ }
 {
     writer::put_word(st.output(), text, out);
     st.step(a, ai, t)
@@ -35,7 +35,7 @@ pub fn four(
 ) -> Snow2
     requires { ⌜ Lent (now a) (now ai) (now t) ⌝ }
     requires { ⌜ (16 ≤ length (now text)) × (16 ≤ length (now out)) ⌝ }
-    ensures { λ r. ⌜ Did gen 0 st 16 (now (text .entry)) (now (out .entry)) r (now (out .exit)) ⌝ }
+    ensures { λ r. ⌜ PartCrypted gen 0 st 16 (now (text .entry)) (now (out .entry)) r (now (out .exit)) ⌝ }
 {
     let st1 = unit(st, a, ai, t, text, out);
     let st2 = unit(st1, a, ai, t, &text[4..], &mut out[4..]);
@@ -56,7 +56,7 @@ pub fn part(
 ) -> Snow2
     requires { ⌜ Lent (now a) (now ai) (now t) ⌝ }
     requires { ⌜ (from + used ≤ 4) × ((used ≤ length (now text)) × (used ≤ length (now out))) ⌝ }
-    ensures { λ r. ⌜ Did gen from st used (now (text .entry)) (now (out .entry)) r (now (out .exit)) ⌝ }
+    ensures { λ r. ⌜ PartCrypted gen from st used (now (text .entry)) (now (out .entry)) r (now (out .exit)) ⌝ }
 {
     let ks = words::bytes(st.output());
     writer::put_part(&ks, from, used, text, out);

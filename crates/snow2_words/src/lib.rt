@@ -1,11 +1,11 @@
 // SNOW 2.0 over a line's words, with either length of key.
-// A caller holds the lengths of key and IV, a state that SNOW 2.0 admits, a place within a unit, and a buffer as long as the text.
+// The caller must ensure the lengths of key and IV, a state that SNOW 2.0 admits, a place within a unit, and a buffer as long as the text.
 ghost use mathlib.Core.Path.{_≡_};
 ghost use mathlib.Core.Bool.{true};
 ghost use mathlib.Core.List.{[], _∷_, _++_};
-ghost use Prim.Native.Nat.{_+_, _/_, _<_, _≤_};
+ghost use Prim.Native.Nat.{_<_, _≤_};
 ghost use lib.ListN.{length, drop};
-ghost use Rattle.keystream.specs.Stream.{stateAt, byteAt, xorFrom};
+ghost use Rattle.keystream.specs.Stream.{TextCrypted};
 ghost use Rattle.ciphers.specs.States.{stateWords, snow2Words, snow2State};
 ghost use Rattle.ciphers.specs.Table.{snow128, snow256};
 use card_sizes::STATE;
@@ -72,7 +72,7 @@ pub fn open256(key: &[u8], iv: &[u8]) -> [u32; STATE]
 pub fn xor_text(w: &mut [u32], skip: usize, text: &[u8], out: &mut [u8])
     requires { ⌜ (length (now w) ≡ stateWords) × (snow128 .admits (now w) ≡ true) ⌝ }
     requires { ⌜ (skip < 4) × (length (now text) ≤ length (now out)) ⌝ }
-    ensures { λ _. ⌜ (now (w .exit) ≡ stateAt (snow128 .gen) (now (w .entry)) 0 ((skip + length (now (text .entry))) / 4)) × (now (out .exit) ≡ xorFrom (byteAt (snow128 .gen) (now (w .entry)) 0) skip (now (text .entry)) ++ drop (length (now (text .entry))) (now (out .entry))) ⌝ }
+    ensures { λ _. ⌜ TextCrypted (snow128 .gen) skip (now (w .entry)) (now (text .entry)) (now (out .entry)) (now (w .exit)) (now (out .exit)) ⌝ }
 {
     let after = snow2_text::crypt(load(w), skip, text, out);
     store(after, w);

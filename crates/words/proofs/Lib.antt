@@ -3,3 +3,4 @@ pub mod Registers
 pub mod Ranges
 pub mod Xor
 pub mod Digits
+pub mod Tests

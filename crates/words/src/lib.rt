@@ -1,5 +1,5 @@
 // Words of 32 bits: read from a string of bytes, taken apart into bytes, and moved through a register.
-// A caller holds only what a `requires` names: a word that is read lies within the string.
+// The caller must ensure only what a `requires` names: a word that is read lies within the string.
 ghost use mathlib.Core.Path.{_≡_};
 ghost use Prim.Native.Nat.{_+_, _≤_, _<_, _^_};
 ghost use lib.ListN.{length, getD};

@@ -1,5 +1,5 @@
 // The unit writer: text XORed with keystream goes to the start of a buffer, a word at a time or a part of a unit.
-// A caller holds that text and buffer are as long as what is written.
+// The caller must ensure that text and buffer are as long as what is written.
 ghost use mathlib.Core.Path.{_≡_};
 ghost use mathlib.Core.List.{_++_};
 ghost use Prim.Native.Nat.{min, _+_, _≤_};
@@ -32,7 +32,8 @@ pub fn put_word(w: u32, text: &[u8], out: &mut [u8])
 // The first count bytes of text, with the bytes of ks from byte from on, go to the start of out.
 pub fn put_part(ks: &[u8], from: usize, count: usize, text: &[u8], out: &mut [u8])
     requires { ⌜ (from + count ≤ length (now ks)) × ((count ≤ length (now text)) × (count ≤ length (now out))) ⌝ }
-    ensures { λ _. ⌜ now (out .exit) ≡ xorFrom (λ j. getD (now (ks .entry)) j 0) from (take count (now (text .entry))) ++ drop count (now (out .entry)) ⌝ }
+    ensures { λ _. ⌜ now (out .exit) ≡ xorFrom (λ j. getD (now (ks .entry)) j 0) from (take count (now (text .entry))) ++
+        drop count (now (out .entry)) ⌝ }
 {
     let mut i: usize = 0;
     while i < count {

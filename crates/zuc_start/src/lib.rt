@@ -1,5 +1,5 @@
 // The start of ZUC from key and IV (ISO/IEC 18033-4, 8.6.2): the state before any step, and S(0).
-// A caller holds the lengths of key and IV, sixteen bytes each, and lends the tables that `zuc_tables` makes.
+// The caller must ensure the lengths of key and IV, sixteen bytes each, and passes by reference the tables that `zuc_tables` makes.
 ghost use mathlib.Core.Path.{_≡_};
 ghost use lib.ListN.{length};
 ghost use Rattle.zuc_tables.specs.Tables.{Lent};

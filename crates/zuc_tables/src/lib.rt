@@ -1,4 +1,4 @@
-// The tables of ZUC. An index into a constant builds the constant anew, so whoever runs many steps makes a table once and lends it.
+// The tables of ZUC. An index into a constant builds the constant anew, so whoever runs many steps makes a table once and passes it by reference.
 ghost use mathlib.Core.Path.{_≡_};
 ghost use Rattle.zuc_tables.specs.Tables.{sub1 as sub1List, sub2 as sub2List, d as dList};
 

@@ -1,10 +1,8 @@
 // ZUC over a text: the tables made once, the rest of a begun unit, whole units four to a turn, and the tail.
-// A caller holds that the place in the unit is one of its four bytes and that the text fits the buffer.
-ghost use mathlib.Core.Path.{_≡_};
-ghost use mathlib.Core.List.{_++_};
-ghost use Prim.Native.Nat.{_+_, _/_, _≤_, _<_};
-ghost use lib.ListN.{length, drop};
-ghost use Rattle.keystream.specs.Stream.{stateAt, byteAt, xorFrom, Did};
+// The caller must ensure that the place in the unit is one of its four bytes and that the text fits the buffer.
+ghost use Prim.Native.Nat.{_≤_, _<_};
+ghost use lib.ListN.{length};
+ghost use Rattle.keystream.specs.Stream.{TextCrypted, PartCrypted};
 ghost use Rattle.zuc_tables.specs.Tables.{Lent};
 ghost use Rattle.zuc.specs.Generator.{gen};
 use zuc::Zuc;
@@ -16,7 +14,7 @@ use zuc_units::unit;
 fn ones(st: Zuc, t1: &[u8; 256], t2: &[u8; 256], text: &[u8], out: &mut [u8]) -> Zuc
     requires { ⌜ Lent (now t1) (now t2) ⌝ }
     requires { ⌜ length (now text) ≤ length (now out) ⌝ }
-    ensures { λ r. ⌜ Did gen 0 st (length (now (text .entry))) (now (text .entry)) (now (out .entry)) r (now (out .exit)) ⌝ }
+    ensures { λ r. ⌜ PartCrypted gen 0 st (length (now (text .entry))) (now (text .entry)) (now (out .entry)) r (now (out .exit)) ⌝ }
 {
     let count = text.len();
     let mut cur = st;
@@ -32,7 +30,7 @@ fn ones(st: Zuc, t1: &[u8; 256], t2: &[u8; 256], text: &[u8], out: &mut [u8]) ->
 fn fours(st: Zuc, t1: &[u8; 256], t2: &[u8; 256], text: &[u8], out: &mut [u8]) -> Zuc
     requires { ⌜ Lent (now t1) (now t2) ⌝ }
     requires { ⌜ length (now text) ≤ length (now out) ⌝ }
-    ensures { λ r. ⌜ Did gen 0 st (length (now (text .entry))) (now (text .entry)) (now (out .entry)) r (now (out .exit)) ⌝ }
+    ensures { λ r. ⌜ PartCrypted gen 0 st (length (now (text .entry))) (now (text .entry)) (now (out .entry)) r (now (out .exit)) ⌝ }
 {
     let count = text.len();
     let mut cur = st;
@@ -48,7 +46,7 @@ fn fours(st: Zuc, t1: &[u8; 256], t2: &[u8; 256], text: &[u8], out: &mut [u8]) -
 // which the next byte lies.
 pub fn crypt(st: Zuc, skip: usize, text: &[u8], out: &mut [u8]) -> Zuc
     requires { ⌜ (skip < 4) × (length (now text) ≤ length (now out)) ⌝ }
-    ensures { λ r. ⌜ (r ≡ stateAt gen st 0 ((skip + length (now (text .entry))) / 4)) × (now (out .exit) ≡ xorFrom (byteAt gen st 0) skip (now (text .entry)) ++ drop (length (now (text .entry))) (now (out .entry))) ⌝ }
+    ensures { λ r. ⌜ TextCrypted gen skip st (now (text .entry)) (now (out .entry)) r (now (out .exit)) ⌝ }
 {
     let t1 = zuc_tables::sub1();
     let t2 = zuc_tables::sub2();

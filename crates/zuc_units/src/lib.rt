@@ -1,10 +1,10 @@
 // Units of ZUC's keystream over a text: one that is whole, four to a turn, and a part of one, each with the step after it.
-// A caller holds that the text and the buffer have the bytes, and lends the tables that `zuc_tables` makes.
+// The caller must ensure that the text and the buffer have the bytes, and passes by reference the tables that `zuc_tables` makes.
 ghost use mathlib.Core.Path.{_≡_};
 ghost use mathlib.Core.List.{_++_};
 ghost use Prim.Native.Nat.{_+_, _≤_};
 ghost use lib.ListN.{length, take, drop, getD};
-ghost use Rattle.keystream.specs.Stream.{xorFrom, Did};
+ghost use Rattle.keystream.specs.Stream.{xorFrom, PartCrypted};
 ghost use Rattle.zuc_tables.specs.Tables.{Lent};
 ghost use Rattle.zuc.specs.Cipher.{unit as unitOf};
 ghost use Rattle.zuc.specs.Generator.{gen};
@@ -22,7 +22,7 @@ fn put(st: Zuc, text: &[u8], out: &mut [u8])
 pub fn unit(st: Zuc, t1: &[u8; 256], t2: &[u8; 256], text: &[u8], out: &mut [u8]) -> Zuc
     requires { ⌜ Lent (now t1) (now t2) ⌝ }
     requires { ⌜ (4 ≤ length (now text)) × (4 ≤ length (now out)) ⌝ }
-    ensures { λ r. ⌜ Did gen 0 st 4 (now (text .entry)) (now (out .entry)) r (now (out .exit)) ⌝ }
+    ensures { λ r. ⌜ PartCrypted gen 0 st 4 (now (text .entry)) (now (out .entry)) r (now (out .exit)) ⌝ }
 {
     put(st, text, out);
     st.step(t1, t2)
@@ -32,7 +32,7 @@ pub fn unit(st: Zuc, t1: &[u8; 256], t2: &[u8; 256], text: &[u8], out: &mut [u8]
 pub fn four(st: Zuc, t1: &[u8; 256], t2: &[u8; 256], text: &[u8], out: &mut [u8]) -> Zuc
     requires { ⌜ Lent (now t1) (now t2) ⌝ }
     requires { ⌜ (16 ≤ length (now text)) × (16 ≤ length (now out)) ⌝ }
-    ensures { λ r. ⌜ Did gen 0 st 16 (now (text .entry)) (now (out .entry)) r (now (out .exit)) ⌝ }
+    ensures { λ r. ⌜ PartCrypted gen 0 st 16 (now (text .entry)) (now (out .entry)) r (now (out .exit)) ⌝ }
 {
     put(st, text, out);
     let st1 = st.step(t1, t2);
@@ -56,7 +56,7 @@ pub fn part(
 ) -> Zuc
     requires { ⌜ Lent (now t1) (now t2) ⌝ }
     requires { ⌜ (from + used ≤ 4) × ((used ≤ length (now text)) × (used ≤ length (now out))) ⌝ }
-    ensures { λ r. ⌜ Did gen from st used (now (text .entry)) (now (out .entry)) r (now (out .exit)) ⌝ }
+    ensures { λ r. ⌜ PartCrypted gen from st used (now (text .entry)) (now (out .entry)) r (now (out .exit)) ⌝ }
 {
     let ks = words::bytes(st.output());
     writer::put_part(&ks, from, used, text, out);

@@ -55,7 +55,7 @@ fn cipher(b: &mut Builder, plan: &Plan) -> u8 {
     }
 }
 
-/// The cipher operand: the cipher itself, or with fault 4 a number that is none.
+/// The cipher operand: the cipher itself, or with fault 4 an unknown number.
 fn cipher_operand(b: &mut Builder, plan: &Plan, cipher: u8) -> u8 {
     let any = b.random.between(u64::from(LAST) + 1, 255) as u8;
     if plan.has(4) {

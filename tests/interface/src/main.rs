@@ -1,5 +1,5 @@
 //! Holds the card's C interface, linked as a program in C or Rust links it, against the second implementation: cards
-//! that are none, card buffers and counts of other lengths, the named cases, and call lists from a seed. Ends with 0 if
+//! that are damaged, card buffers and counts of other lengths, the named cases, and call lists from a seed. Ends with 0 if
 //! all agree and every number was met, else with 1; its last line says which, as `tests/linked`.
 
 #![forbid(unsafe_code)]

@@ -9,7 +9,7 @@ use native.Mathlib.Omega.{arith}
 use borrow.Author.Tests.{not-true, not-false}
 use Rattle.card_sizes.specs.Sizes.{lineCount}
 use Rattle.words.specs.Tests.{both}
-use Rattle.ciphers.proofs.Tests.{both-true}
+use Rattle.words.proofs.Tests.{both-true}
 use Rattle.machine.specs.Parks.{parksOk}
 use Rattle.machine.specs.Machine.{lineOk, allOk}
 use Rattle.card_line.specs.Words.{lineIn, lineWords}

@@ -11,7 +11,7 @@ use borrow.Author.Tests.{le-leb, lt-leb}
 use Rattle.words.specs.Tests.{both}
 use Rattle.card_sizes.specs.Sizes.{stateWords}
 use Rattle.ciphers.specs.Table.{isCipher, cipherAt}
-use Rattle.ciphers.proofs.Tests.{both-false}
+use Rattle.words.proofs.Tests.{both-false}
 use Rattle.ciphers.proofs.Numbers.{read-none, read-is}
 use Rattle.machine.specs.Machine.{limit, openOk}
 use borrow.Author.Needs.{needs}

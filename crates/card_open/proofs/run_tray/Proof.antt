@@ -1,81 +1,74 @@
--- `card_open::run_tray` meets its contract: each test is a row of the table, and the key is the part of the tray that its number names.
+-- `card_open::run_tray` meets its contract: the number of its rows refuses, and the key is the part of the tray that its number names.
 -- Assumes nothing.
-use mathlib.Core.Path.{_≡_}
-use mathlib.Core.Bool.{Bool, true, false, not}
+use mathlib.Core.Path.{_≡_, sym, subst, _∙_}
+use mathlib.Core.Bool.{false}
+use mathlib.Core.List.{List}
+use Prim.Native.Nat.{ℕ, _+_, _*_, _≤_}
 use native.Mathlib.Omega.{arith}
-use lib.Dec.{eqb}
-use borrow.Author.Tests.{eq-eqb, ne-eqb, lt-ltb, le-ltb}
-use Rattle.command.specs.Decode.{lengthOf}
-use Rattle.machine.specs.Machine.{decided, refuseIf, isIdle}
-use Rattle.card_outcome.specs.Leaves.{publicOf}
-use Rattle.card_outcome.proofs.Laws.{busy-is, given-true, given-false, given-refusal}
-use Rattle.card_open.proofs.Rows.{tray-uneven, tray-long, tray-good}
+use lib.ListN.{length, take, drop}
+use Rattle.card_sizes.specs.Sizes.{keyLength, ivLength, trayIv, trayLength}
+use Rattle.command.specs.declared.Command.the-variants.{Tray}
+use Rattle.command.specs.Decode.{numberOf}
+use Rattle.command.specs.Rows.{Row, unless}
+use Rattle.command.proofs.Rows.{code-passed}
+use Rattle.card_rows.specs.Rows.{trayRows}
+use Rattle.card_rows.proofs.Codes.{tray-passed}
+use Rattle.machine.specs.Machine.{Effect, refuseIf}
+use Rattle.card_keys.specs.Keys.{keyBytes, openWith}
+use Rattle.card_outcome.specs.declared.Outcome.{Outcome}
+use Rattle.card_outcome.specs.Leaves.{callOf, EffectLeaves, CommandLeaves}
+use Rattle.card_outcome.proofs.Laws.{given-rows, given-passed}
+use Rattle.card_open.proofs.Rows.{tray-decided}
 use borrow.Author.Needs.{needs}
 use Rattle.card_open.proofs.run_tray.Statement.{statement}
 use Rattle.card_open.proofs.run_tray.Tie as tie
 
--- ---- once the mode is read
+-- ---- places
 
-abbrev start : tie.After-mode-at → tie.Start
-start p = p .before .before .before .before .before
+abbrev start : tie.After-tray-code → tie.Start
+start k = k .before .before .before .before .before .before
 
-busy : (p : tie.After-mode-at) (b : Bool) → eqb (p .mode-at .result) 0 ≡ b → not (isIdle (publicOf (start p .args .card .now)) (start p .args .i)) ≡ not b
-busy p = busy-is (start p .args .card .now) (start p .args .i) (p .mode-at .ensures)
+abbrev entered : tie.After-slice-known2 → tie.After-open-line
+entered c = c .before .before
 
-idle : (c : tie.Else1) → not (isIdle (publicOf (start (c .before) .args .card .now)) (start (c .before) .args .i)) ≡ false
-idle c = busy (c .before) true (eq-eqb _ _ (c .if1 .left))
+-- ---- the rows
+
+abbrev rows : tie.After-tray-code → List Row
+rows k = let a = start k .args in trayRows (k .before .mode-at .result) (length (a .tray .now)) (a .number)
+
+abbrev opens : tie.After-tray-code → Effect
+opens k =
+    let a = start k .args in
+    openWith (a .i) trayLength (numberOf (a .cipher)) (keyBytes false (keyLength * a .number) (a .tray .now) (a .command .now)) (take ivLength (drop trayIv (a .command .now)))
+
+by-rows : (k : tie.After-tray-code) (text out : List ℕ) {r : Outcome} {ws' : List ℕ} → let a = start k .args in
+    EffectLeaves (a .card .now) text out (unless refuseIf (rows k) (opens k)) r ws' out →
+    CommandLeaves (a .card .now) (Tray (a .i) (a .cipher) (a .number)) (callOf (a .command .now) (a .tray .now) text out) r ws' out
+by-rows k text out {r} {ws'} h =
+    let a = start k .args in
+    subst (λ (e : Effect). EffectLeaves (a .card .now) text out e r ws' out)
+    (sym (tray-decided (a .card .now) (a .i) (a .cipher) (a .number) (a .command .now) (a .tray .now) text out (k .before .mode-at .ensures))) h
 
 returns : tie.Need-returns
-unfolding decided refuseIf lengthOf
 returns c =
-    let p = c .before .before in
-    let w = start p .args .card .now in
-    λ t o. given-true w t o _ _ _ (busy p false (ne-eqb _ _ (c .before .if1 .taken))) (given-refusal w t o 5 (λ z. omega arith) (c .refused .ensures))
+    let k = c .before .before in
+    let w = start k .args .card .now in
+    λ t o. by-rows k t o (given-rows w t o (rows k) (opens k) (k .tray-code .ensures) (c .before .if1 .taken) (c .refused .ensures))
+
+passed : (e : tie.Else1) → let a = start (e .before) .args in keyLength * a .number + keyLength ≤ length (a .tray .now)
+passed e = let a = start (e .before) .args in tray-passed (e .before .before .mode-at .result) (length (a .tray .now)) (a .number) (sym (e .before .tray-code .ensures) ∙ e .if1 .left)
 
 returns-2 : tie.Need-returns-2
-unfolding decided refuseIf lengthOf
 returns-2 c =
-    let e1 = c .before .before in
-    let w = start (e1 .before) .args .card .now in
-    λ t o. given-false w t o _ _ _ (idle e1)
-    (given-true w t o _ _ _ (tray-uneven _ (c .before .if2 .taken))
-    (given-refusal w t o 9 (λ z. omega arith) (c .refused2 .ensures)))
-
-returns-3 : tie.Need-returns-3
-unfolding decided refuseIf lengthOf
-returns-3 c =
-    let e1 = c .before .before .before in
-    let w = start (e1 .before) .args .card .now in
-    λ t o. given-false w t o _ _ _ (idle e1)
-    (given-true w t o _ _ _ (tray-long _ (c .before .if3 .taken))
-    (given-refusal w t o 9 (λ z. omega arith) (c .refused3 .ensures)))
-
-returns-4 : tie.Need-returns-4
-unfolding decided refuseIf lengthOf
-returns-4 c =
-    let e3 = c .before .before in
-    let e1 = e3 .before .before in
-    let w = start (e1 .before) .args .card .now in
-    λ t o. given-false w t o _ _ _ (idle e1)
-    (given-false w t o _ _ _ (tray-good _ (e3 .before .if2 .left) (e3 .if3 .left))
-    (given-true w t o _ _ _ (lt-ltb _ _ (c .before .if4 .taken))
-    (given-refusal w t o 10 (λ z. omega arith) (c .refused4 .ensures))))
-
-returns-5 : tie.Need-returns-5
-unfolding decided refuseIf lengthOf
-returns-5 c =
-    let q = c .before .before in
-    let e4 = q .before .before .before in
-    let e3 = e4 .before in
-    let e1 = e3 .before .before in
-    let w = start (e1 .before) .args .card .now in
-    λ t o. given-false w t o _ _ _ (idle e1)
-    (given-false w t o _ _ _ (tray-good _ (e3 .before .if2 .left) (e3 .if3 .left))
-    (given-false w t o _ _ _ (le-ltb _ _ (e4 .if4 .left)) (q .open-line .ensures t o)))
+    let q = entered c in
+    let e = q .before .before .before in
+    let k = e .before in
+    let w = start k .args .card .now in
+    λ t o. by-rows k t o
+    (given-passed w t o (rows k) (opens k) (code-passed (rows k) tt (sym (k .tray-code .ensures) ∙ e .if1 .left)) (q .open-line .ensures t o))
 
 pub run-tray-spec : {M : Type 1} → statement M
 run-tray-spec =
     tie.close
-    (tie.spec (λ c κs. search needs) (λ c κs. search needs) (λ c. search needs) returns (λ c κs. search needs) (λ c. search needs) returns-2
-    (λ c κs. search needs) (λ c. search needs) returns-3 (λ c. search needs) (λ c. search needs) (λ c κs. search needs) (λ c. search needs) returns-4
-    (λ c. search needs) (λ c. search needs) (λ c. search needs) (λ c κs. search needs) (λ c. search needs) returns-5)
+    (tie.spec (λ c κs. search needs) (λ c κs. search needs) (λ c κs. search needs) (λ c. search needs) returns (λ c. search needs) (λ c. search needs) (λ c. search needs) (λ c. search needs)
+    (λ c κs. let h = passed (c .before .before) in search needs) (λ c. search needs) returns-2)

@@ -10,14 +10,14 @@ use Rattle.command.specs.Decode.{decodeOf, lineOf, lengthOf}
 use Rattle.command.proofs.Reading.{Has, read-in, run-has}
 use Rattle.machine.specs.Machine.{Call}
 use Rattle.card_outcome.specs.declared.Outcome.{Outcome}
-use Rattle.card_outcome.specs.Leaves.{callOf, Does}
+use Rattle.card_outcome.specs.Leaves.{callOf, CommandLeaves}
 use borrow.Author.Needs.{needs}
 use Rattle.card_perform.proofs.perform.Statement.{statement}
 use Rattle.card_perform.proofs.perform.Tie as tie
 
 -- what is so of a command is so of the one that it was found to be
-found : (ws : List ℕ) {k k' : Command} (a : Call) {r : Outcome} {ws' o : List ℕ} → k ≡ k' → Does ws k' a r ws' o → Does ws k a r ws' o
-found ws a {r} {ws'} {o} e h = subst (λ (x : Command). Does ws x a r ws' o) (sym e) h
+found : (ws : List ℕ) {k k' : Command} (a : Call) {r : Outcome} {ws' o : List ℕ} → k ≡ k' → CommandLeaves ws k' a r ws' o → CommandLeaves ws k a r ws' o
+found ws a {r} {ws'} {o} e h = subst (λ (x : Command). CommandLeaves ws x a r ws' o) (sym e) h
 
 -- what the call lends
 abbrev lent : tie.Start → Call

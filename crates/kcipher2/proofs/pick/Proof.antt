@@ -7,7 +7,7 @@ use native.Mathlib.Omega.{arith}
 use lib.Bits.{bitXor, xor-comm, xor-self, xor-zero-r, xor-lt}
 use Rattle.words.specs.Word.{_⊕_}
 use Rattle.words.proofs.Xor.{xor-assoc}
-use Rattle.kcipher2.specs.Cipher.{pick}
+use Rattle.kcipher2.specs.Cipher.{byDigit}
 use Rattle.kcipher2.proofs.pick.Statement.{statement}
 use Rattle.kcipher2.proofs.pick.Tie as tie
 
@@ -16,7 +16,7 @@ times-digit n zero h k = rw mul-zero (omega arith)
 times-digit n (suc zero) h k = rw mul-one h
 times-digit n (suc (suc e)) h k = omega arith
 
-picked : (e x y : ℕ) → e < 2 → y ⊕ ((x ⊕ y) * e) ≡ pick e x y
+picked : (e x y : ℕ) → e < 2 → y ⊕ ((x ⊕ y) * e) ≡ byDigit e x y
 picked zero x y h = ap (bitXor y) (mul-zero (x ⊕ y)) ∙ xor-zero-r y
 picked (suc zero) x y h =
     ap (bitXor y) (mul-one (x ⊕ y) ∙ xor-comm x y) ∙ sym (xor-assoc y y x) ∙ ap (λ (z : ℕ). z ⊕ x) (xor-self y)

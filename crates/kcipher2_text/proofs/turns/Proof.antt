@@ -4,7 +4,7 @@ use mathlib.Core.Path.{_≡_, refl, sym, _∙_, subst}
 use Prim.Native.Nat.{ℕ, _+_, _-_, _%_, _^_, _<_, _≤_}
 use lib.ListN.{length}
 use native.Mathlib.Omega.{arith}
-use Rattle.keystream.specs.Stream.{Did}
+use Rattle.keystream.specs.Stream.{PartCrypted}
 use Rattle.keystream.proofs.Parts.{tail-length, did-none, did-lent, did-length}
 use Rattle.kcipher2.specs.Generator.{gen}
 use borrow.Author.Needs.{needs}
@@ -13,7 +13,7 @@ use Rattle.kcipher2_text.proofs.turns.Tie as tie
 
 abbrev Inv-loop : tie.InvT-loop
 Inv-loop m0 m1 m2 m3 t from text out₀ count ks₀ cur₀ place₀ at₀ out ks cur place at =
-    (at ≤ count) × ((place ≡ (from + at) % 8) × ((length ks ≡ 256) × ((length out ≡ length out₀) × Did gen from cur₀ at text out₀ cur out)))
+    (at ≤ count) × ((place ≡ (from + at) % 8) × ((length ks ≡ 256) × ((length out ≡ length out₀) × PartCrypted gen from cur₀ at text out₀ cur out)))
 
 abbrev μ-loop : tie.MeasureT-loop
 μ-loop m0 m1 m2 m3 t from text out₀ count ks₀ cur₀ place₀ at₀ out ks cur place at = count - at
@@ -62,7 +62,7 @@ returns c =
     let l = c .before .loop in
     let a = c .before .before .before .before .args in
     let e : l .at ≡ length (a .text .now) = omega arith in
-    subst (λ (n : ℕ). Did gen (a .from) (a .st) n (a .text .now) (a .out .now) (l .cur) (l .out)) e (l .inv .1 .1 .1 .1)
+    subst (λ (n : ℕ). PartCrypted gen (a .from) (a .st) n (a .text .now) (a .out .now) (l .cur) (l .out)) e (l .inv .1 .1 .1 .1)
 
 pub turns-spec : {M : Type 1} → statement M
 turns-spec =

@@ -5,7 +5,7 @@ use Prim.Native.Nat.{ℕ, _*_, _<_, _^_}
 use native.Mathlib.Omega.{arith}
 use lib.Pow.{shr-lt}
 use Rattle.words.proofs.Ranges.{mul-below}
-use Rattle.rabbit.specs.Cipher.{g, halves}
+use Rattle.rabbit.specs.Cipher.{g, folded}
 use borrow.Author.Needs.{needs}
 use Rattle.rabbit.proofs.g.Statement.{statement}
 use Rattle.rabbit.proofs.g.Tie as tie
@@ -22,7 +22,7 @@ cast-result-2 c =
 
 returns : tie.Need-returns
 unfolding g
-returns c = ap (λ (t : ℕ). halves (t * t)) (c .wrapping-add-u32 .ensures)
+returns c = ap (λ (t : ℕ). folded (t * t)) (c .wrapping-add-u32 .ensures)
 
 pub g-spec : {M : Type 1} → statement M
 g-spec =

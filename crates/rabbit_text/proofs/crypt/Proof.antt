@@ -4,7 +4,7 @@ use mathlib.Core.Path.{_≡_, refl, sym, _∙_, subst}
 use Prim.Native.Nat.{ℕ, _+_, _-_, _%_, _^_, _<_, _≤_}
 use lib.ListN.{length}
 use native.Mathlib.Omega.{arith}
-use Rattle.keystream.specs.Stream.{Did}
+use Rattle.keystream.specs.Stream.{PartCrypted}
 use Rattle.keystream.proofs.Parts.{did-none, did-lent, did-length, crypted}
 use Rattle.rabbit.specs.Generator.{gen}
 use borrow.Author.Needs.{needs}
@@ -13,7 +13,7 @@ use Rattle.rabbit_text.proofs.crypt.Tie as tie
 
 abbrev Inv-loop : tie.InvT-loop
 Inv-loop skip text out₀ count ks₀ cur₀ place₀ at₀ out ks cur place at =
-    (at ≤ count) × ((place ≡ (skip + at) % 16) × ((length ks ≡ 256) × ((length out ≡ length out₀) × Did gen skip cur₀ at text out₀ cur out)))
+    (at ≤ count) × ((place ≡ (skip + at) % 16) × ((length ks ≡ 256) × ((length out ≡ length out₀) × PartCrypted gen skip cur₀ at text out₀ cur out)))
 
 abbrev μ-loop : tie.MeasureT-loop
 μ-loop skip text out₀ count ks₀ cur₀ place₀ at₀ out ks cur place at = count - at
@@ -52,7 +52,7 @@ returns c =
     let a = k .args in
     let e : l .at ≡ length (a .text .now) = omega arith in
     crypted gen 16 (omega arith) refl (k .pre .1)
-    (subst (λ (n : ℕ). Did gen (a .skip) (a .st) n (a .text .now) (a .out .now) (l .cur) (l .out)) e (l .inv .1 .1 .1 .1))
+    (subst (λ (n : ℕ). PartCrypted gen (a .skip) (a .st) n (a .text .now) (a .out .now) (l .cur) (l .out)) e (l .inv .1 .1 .1 .1))
 
 pub crypt-spec : {M : Type 1} → statement M
 crypt-spec =

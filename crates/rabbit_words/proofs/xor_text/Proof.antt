@@ -7,8 +7,8 @@ use lib.Dec.{eqb}
 use lib.ListN.{length, getD}
 use Rattle.words.specs.Tests.{pick}
 use Rattle.ciphers.specs.States.{stateWords}
-use Rattle.ciphers.specs.Table.{spare, rabbitFace, rabbit}
-use Rattle.ciphers.proofs.Tests.{both-right}
+use Rattle.ciphers.specs.Table.{zerosFrom, rabbitFace, rabbit}
+use Rattle.words.proofs.Tests.{both-right}
 use Rattle.ciphers.proofs.Sound.{rabbit-laws}
 use Rattle.ciphers.proofs.Along.{row-along, lent-fit, padded}
 use Rattle.rabbit.specs.Range.{InRange}
@@ -36,7 +36,7 @@ returns c =
     let s = k .before in
     let a = s .args in
     row-along rabbitFace InRange rabbit-laws (a .skip) (a .text .now) (a .out .now) (lent-fit (a .w .now) (λ i. k .slice-known .given i .fits) (s .pre .0 .0) (s .pre .0 .1)) (q .before .before .load .ensures)
-    (c .before .before .store .ensures ∙ padded 17 (own (q .crypt .result)) (a .w .now) (s .pre .0 .0) (both-right (pick (eqb (getD (a .w .now) 16 0) 0) true (eqb (getD (a .w .now) 16 0) (2 ^ 24))) (spare 17 (a .w .now)) (s .pre .0 .1)) ∙ with-zeros (q .crypt .result)) (q .crypt .ensures)
+    (c .before .before .store .ensures ∙ padded 17 (own (q .crypt .result)) (a .w .now) (s .pre .0 .0) (both-right (pick (eqb (getD (a .w .now) 16 0) 0) true (eqb (getD (a .w .now) 16 0) (2 ^ 24))) (zerosFrom 17 (a .w .now)) (s .pre .0 .1)) ∙ with-zeros (q .crypt .result)) (q .crypt .ensures)
 
 pub xor-text-spec : {M : Type 1} → statement M
 xor-text-spec = tie.close (tie.spec (λ c κs. search needs) (λ c κs. search needs) store-requires (λ c. search needs) (λ c. search needs) returns)

@@ -1,7 +1,7 @@
 -- `session_table::put_row` meets its contract: each figure goes behind the one before it.
 -- Assumes nothing.
 use native.Mathlib.Omega.{arith}
-use Rattle.session_table.specs.Table.{rowOf}
+use Rattle.session_table.specs.Table.{callRow}
 use Rattle.session_table.proofs.Text.{figure-room, behind-more}
 use borrow.Author.Needs.{needs}
 use Rattle.session_table.proofs.put_row.Statement.{statement}
@@ -40,7 +40,7 @@ put-figure-requires-5 c κs =
     (figure-room _ _ (p2 .put-figure2 .ensures) 63 (figure-room _ _ (p1 .put-figure .ensures) 84 (p1 .before .before .before .pre))))
 
 returns : tie.Need-returns
-unfolding rowOf
+unfolding callRow
 returns c =
     let p5 = c .before .before in
     let p4 = p5 .before .before .before .before in

@@ -132,7 +132,7 @@ fn lines() -> Vec<Case> {
     over.chain([last]).collect()
 }
 
-/// Both opens with cipher numbers that are none.
+/// Both opens with unknown cipher numbers.
 fn ciphers() -> Vec<Case> {
     let of = |cipher: u8| {
         let own = command::open_own(0, cipher, &[1; RECORD], &[0; 16]);
