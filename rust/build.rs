@@ -18,7 +18,7 @@ fn main() {
     println!("cargo:rustc-link-lib=static=pipeshear");
 }
 
-/// The library's folder; one that is not absolute is taken from the repository's folder on, the one above this package.
+/// The library's folder; a relative path starts at the repository's folder, the one above this package.
 fn folder() -> PathBuf {
     let package = env::var_os("CARGO_MANIFEST_DIR").unwrap_or_default();
     let repository = Path::new(&package).parent().unwrap_or(Path::new(".."));

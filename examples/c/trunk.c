@@ -1,6 +1,6 @@
-/* A call between the two ends of a trunk. The near end enciphers two frames, parks the call and goes on with it on
- * another line, where it is taken up once; the far end, a card of its own with the same key, deciphers all of it in
- * frames of other lengths. Ends with 0 if the text came back. rust/examples/trunk.rs is the same in Rust. */
+/* A call between the two ends of a trunk. The near end enciphers two frames, parks the call and resumes it on another
+ * line; a second resume is refused. The far end, another card with the same key, deciphers all of it in frames of
+ * other lengths. Exits with 0 if the text came back. rust/examples/trunk.rs is the same in Rust. */
 #include "pipeshear.h"
 
 #include <stdio.h>
@@ -15,7 +15,7 @@ static const uint8_t iv[IV] = {0x84, 0x31, 0x9a, 0xa8, 0xde, 0x69, 0x15, 0xca,
                                0x1f, 0x6b, 0xda, 0x6b, 0xfb, 0xd8, 0xc7, 0x66};
 static const char text[LENGTH + 1] = "hello, ward 7: the doctor is on line 12.";
 
-/* Stands where a call needs no buffer: a pointer must not be null. */
+/* Passed where a call needs no buffer: a pointer must not be null. */
 static uint8_t none[1];
 
 /* One call with an empty tray. Returns the code. */
@@ -27,7 +27,7 @@ static uint8_t call(uint32_t *card, const uint8_t *command, size_t command_bytes
                           data, data_bytes, out, out_bytes, counts, 3);
 }
 
-/* Ends the program if a call was refused. */
+/* Exits with 1 if a call was refused. */
 static void accepted(uint8_t code)
 {
     if (code != 0) {

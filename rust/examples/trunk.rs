@@ -1,6 +1,6 @@
-//! A call between the two ends of a trunk. The near end enciphers two frames, parks the call and goes on with it on
-//! another line, where it is taken up once; the far end, a card of its own with the same key, deciphers all of it in
-//! frames of other lengths. Ends with 0 if the text came back. `examples/c/trunk.c` is the same in C.
+//! A call between the two ends of a trunk. The near end enciphers two frames, parks the call and resumes it on another
+//! line; a second resume is refused. The far end, another card with the same key, deciphers all of it in frames of
+//! other lengths. Exits with 0 if the text came back. `examples/c/trunk.c` is the same in C.
 
 use pipeshear::{command, Card, Cipher, Refusal, IMAGE};
 use std::process::ExitCode;
@@ -26,7 +26,7 @@ fn main() -> ExitCode {
     }
 }
 
-/// The text from end to end; gives what the far end hears.
+/// Sends the text from end to end; returns what the far end hears.
 fn trunk() -> Result<Vec<u8>, Refusal> {
     let (mut near_end, mut wire) = (opened(0)?, Vec::new());
     encipher(&mut near_end, 0, &mut wire, 7)?;
@@ -57,7 +57,7 @@ fn opened(line: u8) -> Result<Card, Refusal> {
     Ok(card)
 }
 
-/// Enciphers the next bytes of the text and puts them on the wire.
+/// Enciphers the next `count` bytes of the text and puts them on the wire.
 fn encipher(near_end: &mut Card, line: u8, wire: &mut Vec<u8>, count: u16) -> Result<(), Refusal> {
     let frame = crypt(near_end, line, &TEXT[wire.len()..], count)?;
     let digits: String = frame.iter().map(|byte| format!("{byte:02x}")).collect();
@@ -66,7 +66,7 @@ fn encipher(near_end: &mut Card, line: u8, wire: &mut Vec<u8>, count: u16) -> Re
     Ok(())
 }
 
-/// Deciphers the next bytes of the wire.
+/// Deciphers the next `count` bytes of the wire.
 fn decipher(far_end: &mut Card, line: u8, wire: &[u8], heard: &mut Vec<u8>, count: u16) -> Result<(), Refusal> {
     let frame = crypt(far_end, line, &wire[heard.len()..], count)?;
     println!("far end, line {line}, {} bytes: {}", frame.len(), String::from_utf8_lossy(&frame));
@@ -74,7 +74,7 @@ fn decipher(far_end: &mut Card, line: u8, wire: &[u8], heard: &mut Vec<u8>, coun
     Ok(())
 }
 
-/// A frame of the first `count` bytes of data.
+/// Enciphers or deciphers the first `count` bytes of data; returns them as a frame.
 fn crypt(card: &mut Card, line: u8, data: &[u8], count: u16) -> Result<Vec<u8>, Refusal> {
     let mut frame = vec![0; usize::from(count)];
     card.call(&command::crypt(line, count), &[], data, &mut frame)?;

@@ -1,13 +1,13 @@
-//! A card of its own: its words, and the call on them.
+//! A card as a value: its words, and the call on them.
 
 use crate::{raw_call, Refusal};
 use std::fmt;
 
 /// A card of eight lines. A new one has all lines idle and has made no park.
 ///
-/// The words of a card say all that its lines will encipher: keep them as keys are kept. They are not shown by `Debug`
-/// and not wiped on drop. A clone goes on with the same keystreams as the card it was made from and takes up the same
-/// images, so only one of the two should go on.
+/// The words of a card determine the keystreams of its lines: protect them like keys. They are not shown by `Debug`
+/// and not wiped on drop. A clone continues the same keystreams as the card it was made from and accepts the same
+/// images, so continue with only one of the two.
 #[derive(Clone, PartialEq, Eq)]
 pub struct Card {
     words: [u32; Card::WORDS],
@@ -33,7 +33,7 @@ impl Card {
         Card { words: [0; Card::WORDS] }
     }
 
-    /// The card that was kept as these words. Whether they are one, the next call tells: if they are not, it is refused
+    /// A card from its saved words. They are not checked here: if they are not a valid card, the next call is refused
     /// with code 255.
     ///
     /// ```
@@ -48,16 +48,16 @@ impl Card {
         Card { words }
     }
 
-    /// The words of the card, to be kept.
+    /// The words of the card, for saving.
     pub const fn words(&self) -> &[u32; Card::WORDS] {
         &self.words
     }
 
-    /// Runs the first command in `command`; bytes behind it are not looked at.
+    /// Runs the first command in `command`; bytes after it are ignored.
     ///
-    /// The key tray has 32 bytes for each key and is read by an open from the tray alone. A crypt takes its bytes from
-    /// the start of `data`. Crypt and park write to the start of `out`; the bytes behind those that are written stay as
-    /// they are. A refused command changes neither the card nor `out`.
+    /// The key tray has 32 bytes for each key and is read only by an open from the tray. A crypt takes its bytes from
+    /// the start of `data`. Crypt and park write to the start of `out`; the bytes after those written are not changed.
+    /// A refused command changes neither the card nor `out`.
     ///
     /// ```
     /// use pipeshear::{command, Card, IMAGE};
@@ -82,7 +82,7 @@ impl Default for Card {
     }
 }
 
-/// Without the words.
+/// Does not show the words.
 impl fmt::Debug for Card {
     fn fmt(&self, f: &mut fmt::Formatter<'_>) -> fmt::Result {
         f.debug_struct("Card").finish_non_exhaustive()
@@ -110,7 +110,7 @@ mod tests {
         (Cipher::Mugi, 16),
     ];
 
-    /// A key of so many bytes, of which the last alone is not 0.
+    /// A key of that many bytes, of which only the last is not 0.
     fn key(length: usize) -> [u8; command::KEY] {
         let mut key = [0; command::KEY];
         key[length - 1] = 1;

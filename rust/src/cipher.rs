@@ -1,6 +1,6 @@
 //! The ciphers that a line can be opened with.
 
-/// A cipher, with the lengths of its key and IV. In a command, shorter keys and IVs stand first, with zeros after them.
+/// A cipher, with the lengths of its key and IV in bytes. A shorter key or IV stands first, with zeros after it.
 #[derive(Clone, Copy, Debug, PartialEq, Eq, Hash)]
 #[non_exhaustive]
 pub enum Cipher {
@@ -19,7 +19,7 @@ pub enum Cipher {
 }
 
 impl Cipher {
-    /// The number that commands and images have for the cipher.
+    /// The cipher's number in commands and images.
     pub const fn number(self) -> u8 {
         self as u8
     }

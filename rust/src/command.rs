@@ -1,6 +1,6 @@
-//! Commands as bytes. Any operand may be given: whether the card takes the command, its answer tells.
+//! Commands as bytes. Operands are not checked here: the card accepts or refuses the command.
 //!
-//! Lines are 0 to 7. A command's bytes may be followed by others, as by the next command.
+//! Lines are 0 to 7. Other bytes may follow a command, such as the next command.
 
 use crate::{Cipher, IMAGE};
 
@@ -11,7 +11,7 @@ pub const KEY: usize = 32;
 pub const IV: usize = 16;
 
 /// Opens an idle line with key `key_number` of the tray, which is the tray's bytes from 32 times that number on. A key
-/// that is all zero in the cipher's length, as in an empty record, is refused with code 16.
+/// that is all zero in the cipher's length, such as an empty record, is refused with code 16.
 pub fn open_tray(line: u8, cipher: Cipher, key_number: u8, iv: &[u8; IV]) -> [u8; 4 + IV] {
     let mut bytes = [0; 4 + IV];
     bytes[..4].copy_from_slice(&[0x01, line, cipher.number(), key_number]);
@@ -19,8 +19,7 @@ pub fn open_tray(line: u8, cipher: Cipher, key_number: u8, iv: &[u8; IV]) -> [u8
     bytes
 }
 
-/// Opens an idle line with a key of the command's own. One that is all zero in the cipher's length is refused with
-/// code 16.
+/// Opens an idle line with the key in the command. One that is all zero in the cipher's length is refused with code 16.
 pub fn open_own(line: u8, cipher: Cipher, key: &[u8; KEY], iv: &[u8; IV]) -> [u8; 3 + KEY + IV] {
     let mut bytes = [0; 3 + KEY + IV];
     bytes[..3].copy_from_slice(&[0x02, line, cipher.number()]);
@@ -29,20 +28,20 @@ pub fn open_own(line: u8, cipher: Cipher, key: &[u8; KEY], iv: &[u8; IV]) -> [u8
     bytes
 }
 
-/// Enciphers or deciphers the first `count` bytes of data, which go to the start of out.
+/// Enciphers or deciphers the first `count` bytes of data and writes them to the start of out.
 pub fn crypt(line: u8, count: u16) -> [u8; 4] {
     let [high, low] = count.to_be_bytes();
     [0x03, line, high, low]
 }
 
-/// Writes an open line's image to the start of out and makes the line idle. The image has the park's number in it,
-/// which the card holds in the place of the number that was last parked from this line.
+/// Writes an open line's image to the start of out and makes the line idle. The image contains the park's number,
+/// which the card holds in place of the number that was last parked from this line.
 pub fn park(line: u8) -> [u8; 2] {
     [0x04, line]
 }
 
 /// Opens an idle line from an image, at the byte where the parked line stopped. The card must hold the image's park
-/// number, and then holds it no more: an image serves once.
+/// number, and the resume uses it up: an image can be resumed once.
 pub fn resume(line: u8, image: &[u8; IMAGE]) -> [u8; 2 + IMAGE] {
     let mut bytes = [0; 2 + IMAGE];
     bytes[..2].copy_from_slice(&[0x05, line]);

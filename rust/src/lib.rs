@@ -1,7 +1,7 @@
 //! The cipher card for an exchange: eight lines, enciphered with the stream ciphers of ISO/IEC 18033-4.
 //!
-//! A [`Card`] takes a command at a time. The functions of [`command`] write commands; a refused one is a [`Refusal`],
-//! which leaves card and buffers as they were. The card itself is the proved library `libpipeshear.a`.
+//! A [`Card`] runs one command at a time. The functions of [`command`] make commands; a refused one returns a
+//! [`Refusal`] and leaves card and buffers as they were. The card itself is the proved library `libpipeshear.a`.
 //!
 //! A line is opened with SNOW 2.0 and enciphers sixteen bytes:
 //!
@@ -20,8 +20,8 @@
 //! # Ok::<(), pipeshear::Refusal>(())
 //! ```
 //!
-//! A call is parked and goes on, on another line, from the byte where it stopped. Its image serves on the card that
-//! parked it, and there once:
+//! A call is parked and continues, on another line, from the byte where it stopped. Its image can be resumed on the
+//! card that parked it, once:
 //!
 //! ```
 //! use pipeshear::{command, Card, Cipher, IMAGE};
@@ -48,7 +48,7 @@
 //! # Ok::<(), pipeshear::Refusal>(())
 //! ```
 //!
-//! No line is opened with a blank key, as an empty record of the tray has it:
+//! A line cannot be opened with a blank key, such as an empty record of the tray:
 //!
 //! ```
 //! use pipeshear::{command, Card, Cipher};

@@ -1,4 +1,4 @@
-//! The C interface: the function of `include/pipeshear.h`, and a call of it on slices. All that is unsafe is here.
+//! The C interface: the function of `include/pipeshear.h`, and a call of it on slices. All unsafe code is here.
 
 extern "C" {
     fn pipeshear_call(
@@ -17,13 +17,13 @@ extern "C" {
     ) -> u8;
 }
 
-/// A call on a card that is kept anywhere, as words; [`Card::call`](crate::Card::call) is the same on a card of its
-/// own.
+/// A call on a card whose words the caller stores; [`Card::call`](crate::Card::call) is the same on a
+/// [`Card`](crate::Card).
 ///
 /// Returns the code, 0 for an accepted command. `counts` are the bytes used of `command`, the bytes used of `data` and
-/// the bytes written to `out`, all 0 if the command is refused. Slices of any lengths may be given: a card that has not
-/// [`Card::WORDS`](crate::Card::WORDS) words gets 255, and so do counts that are not three, which then stay as they
-/// are.
+/// the bytes written to `out`, all 0 if the command is refused. Slices of any length may be passed: the code is 255 if
+/// `card` does not have [`Card::WORDS`](crate::Card::WORDS) words, and also if `counts` does not have three places;
+/// `counts` is then not changed.
 ///
 /// ```
 /// let (mut words, mut counts) = ([0; pipeshear::Card::WORDS], [0; 3]);

@@ -1,4 +1,4 @@
-//! Why a command was refused: the card's number, and what it says.
+//! Why a command was refused: the code, and what it means.
 
 use std::error::Error;
 use std::fmt;
@@ -9,7 +9,7 @@ use std::num::NonZeroU8;
 pub struct Refusal(NonZeroU8);
 
 impl Refusal {
-    /// The refusal of a code; nothing of 0, which is no refusal.
+    /// The refusal with this code, or `None` for 0, which is no refusal.
     pub const fn new(code: u8) -> Option<Refusal> {
         match NonZeroU8::new(code) {
             Some(code) => Some(Refusal(code)),
@@ -23,7 +23,7 @@ impl Refusal {
     }
 }
 
-/// What the code says, as `line over 7 (code 3)`.
+/// What the code means, for example `line over 7 (code 3)`.
 impl fmt::Display for Refusal {
     fn fmt(&self, f: &mut fmt::Formatter<'_>) -> fmt::Result {
         write!(f, "{} (code {})", text(self.code()), self.code())
