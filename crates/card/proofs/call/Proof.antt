@@ -8,10 +8,15 @@ use borrow.Author.Needs.{needs}
 use Rattle.card.proofs.call.Statement.{statement}
 use Rattle.card.proofs.call.Tie as tie
 
+-- ---- places
+
+abbrev after-shared-slice-known2 : tie.After-run → tie.After-shared-slice-known2
+after-shared-slice-known2 c = c .before .before .before .before .before .before
+
 returns : tie.Need-returns
 returns c =
     let r = c .before .before .before in
-    let t = r .before .before .before .before .before .before in
+    let t = after-shared-slice-known2 r in
     let s = t .before .before in
     let a = s .args in
     promised (a .card) (callOf (a .command .now) (a .tray .now) (a .«data» .now) (a .out .now)) _ _ _ (r .run .ensures)

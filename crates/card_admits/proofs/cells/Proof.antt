@@ -22,6 +22,14 @@ Inv-loop w i₀ i = Passed isCell (take 16 w) i
 abbrev μ-loop : tie.MeasureT-loop
 μ-loop w i₀ i = 16 - i
 
+-- ---- places
+
+abbrev at-loop : tie.Then2 Inv-loop μ-loop → tie.At-loop Inv-loop μ-loop
+at-loop c = c .before .before .before .before
+
+abbrev at-loop-from-else2 : tie.Else2 Inv-loop μ-loop → tie.At-loop Inv-loop μ-loop
+at-loop-from-else2 c = c .before .before .before .before
+
 loop-holds : tie.Need-loop-holds Inv-loop μ-loop
 loop-holds c = (search needs, refl)
 
@@ -35,7 +43,7 @@ returns c =
 
 returns-2 : tie.Need-returns-2 Inv-loop μ-loop
 returns-2 c =
-    let p = c .before .before .before .before in
+    let p = at-loop c in
     let w = p .before .args .w .now in
     let n = sixteen w (p .before .pre) in
     fails isCell (take 16 w) (p .loop .i) (omega arith) (p .loop .inv)
@@ -43,7 +51,7 @@ returns-2 c =
 
 loop-again : tie.Need-loop-again Inv-loop μ-loop
 loop-again c =
-    let p = c .before .before .before .before in
+    let p = at-loop-from-else2 c in
     let w = p .before .args .w .now in
     let n = sixteen w (p .before .pre) in
     passes isCell (take 16 w) (p .loop .i) (omega arith) (p .loop .inv)

@@ -13,6 +13,11 @@ use borrow.Author.Needs.{needs}
 use Rattle.card_checks.proofs.line_ok.Statement.{statement}
 use Rattle.card_checks.proofs.line_ok.Tie as tie
 
+-- ---- places
+
+abbrev start : tie.Then2 → tie.Start
+start c = c .before .before .before .before .before
+
 returns : tie.Need-returns
 returns c =
     let p = c .before .before in
@@ -27,7 +32,7 @@ returns c =
 
 returns-2 : tie.Need-returns-2
 returns-2 c =
-    let s = c .before .before .before .before .before in
+    let s = start c in
     let z = zero-line (s .args .line .now) (s .pre) (sym (c .before .words-zero .ensures) ∙ c .if2 .taken) in
     (sym (z .0), λ _. z .1)
 

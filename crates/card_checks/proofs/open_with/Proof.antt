@@ -18,6 +18,11 @@ use borrow.Author.Needs.{needs}
 use Rattle.card_checks.proofs.open_with.Statement.{statement}
 use Rattle.card_checks.proofs.open_with.Tie as tie
 
+-- ---- places
+
+abbrev start : tie.After-admits-arg → tie.Start
+start c = c .before .before .before .before .before .before .before
+
 returns : tie.Need-returns
 unfolding openOk
 returns c =
@@ -31,11 +36,11 @@ returns-2 c = rw (read-none _ (sym (c .before .before .read-cipher .ensures) ∙
 
 slice-aggregate-admits : tie.Need-slice-aggregate-admits
 unfolding openOk
-slice-aggregate-admits c = let s = c .before .before .before .before .before .before .before in sym (length-take-le stateWords (s .args .w .now) (omega (arith, s .pre)))
+slice-aggregate-admits c = let s = start c in sym (length-take-le stateWords (s .args .w .now) (omega (arith, s .pre)))
 
 admits-requires : tie.Need-admits-requires
 unfolding openOk
-admits-requires c κs = let s = c .before .before .before .before .before .before .before in length-take-le stateWords (s .args .w .now) (omega (arith, s .pre))
+admits-requires c κs = let s = start c in length-take-le stateWords (s .args .w .now) (omega (arith, s .pre))
 
 returns-3 : tie.Need-returns-3
 unfolding openOk

@@ -19,11 +19,31 @@ use borrow.Author.Needs.{needs}
 use Rattle.card_crypt.proofs.encipher.Statement.{statement}
 use Rattle.card_crypt.proofs.encipher.Tie as tie
 
+-- ---- places
+
+abbrev start-from-enum-told : tie.After-enum-told → tie.Start
+start-from-enum-told c = c .before .before .before .before .before .before .before .before .before .before
+
+abbrev after-cipher-of : tie.After-enum-told → tie.After-cipher-of
+after-cipher-of c = c .before .before .before .before .before
+
+abbrev after-read-cipher : tie.After-unit-of → tie.After-read-cipher
+after-read-cipher c = c .before .before .before .before
+
+abbrev after-position-of : tie.After-unit-of → tie.After-position-of
+after-position-of c = c .before .before .before .before .before
+
+abbrev after-cipher-of-from-unit-of : tie.After-unit-of → tie.After-cipher-of
+after-cipher-of-from-unit-of c = c .before .before .before .before .before .before .before
+
+abbrev after-crypt : tie.After-put-head → tie.After-crypt
+after-crypt c = c .before .before .before .before .before .before
+
 -- an open line's byte names a cipher
 returns : tie.Need-returns
 returns c =
-    let s = c .before .before .before .before .before .before .before .before .before .before in
-    absurd (never _ (s .pre .0 .1 .1) (ap isCipher (sym (c .before .before .before .before .before .cipher-of .ensures)) ∙ read-none _ (sym (c .before .before .read-cipher .ensures) ∙ c .enum-told .given .1)))
+    let s = start-from-enum-told c in
+    absurd (never _ (s .pre .0 .1 .1) (ap isCipher (sym (after-cipher-of c .cipher-of .ensures)) ∙ read-none _ (sym (c .before .before .read-cipher .ensures) ∙ c .enum-told .given .1)))
 
 -- ---- once the line is read
 
@@ -37,19 +57,19 @@ line p = start p .args .line .now
 abbrev named : tie.After-unit-of → Cipher
 named p = p .before .before .c .given .0 .0
 
-is-named : (p : tie.After-unit-of) → p .before .before .before .before .before .before .before .cipher-of .result ≡ numberOf (named p)
-is-named p = read-is _ (sym (p .before .before .before .before .read-cipher .ensures) ∙ p .before .before .c .given .1) .0
+is-named : (p : tie.After-unit-of) → after-cipher-of-from-unit-of p .cipher-of .result ≡ numberOf (named p)
+is-named p = read-is _ (sym (after-read-cipher p .read-cipher .ensures) ∙ p .before .before .c .given .1) .0
 
 abbrev read : tie.After-unit-of → Line
-read p = record { mode = 1; cipher = numberOf (named p); n = p .before .before .before .before .before .position-of .result; words = take stateWords (drop headWords (line p)) }
+read p = record { mode = 1; cipher = numberOf (named p); n = after-position-of p .position-of .result; words = take stateWords (drop headWords (line p)) }
 
 is-line : (p : tie.After-unit-of) → read p ≡ lineIn (line p)
 is-line p =
     let s = start p in
     λ j. record {
       mode = sym (s .pre .0 .1 .0) j;
-      cipher = (sym (is-named p) ∙ p .before .before .before .before .before .before .before .cipher-of .ensures) j;
-      n = p .before .before .before .before .before .position-of .ensures .0 j;
+      cipher = (sym (is-named p) ∙ after-cipher-of-from-unit-of p .cipher-of .ensures) j;
+      n = after-position-of p .position-of .ensures .0 j;
       words = state-slice (line p) (s .pre .0 .0) j;
     }
 
@@ -66,7 +86,7 @@ crypt-requires c κs =
 returns-2 : tie.Need-returns-2
 returns-2 c =
     let h = c .before .before in
-    let k = h .before .before .before .before .before .before in
+    let k = after-crypt h in
     let p = k .before .before .before in
     let s = start p in
     let a = s .args in
@@ -74,7 +94,7 @@ returns-2 c =
     let o = k .crypt .last .1 .1 .1 .1 .0 in
     let n : length w ≡ stateWords = search needs in
     let g = crypted-line (read p) _ (p .unit-of .ensures) (a .text .now) (a .out .now) w o (k .crypt .ensures .0) (k .crypt .ensures .1) in
-    let b = p .before .before .before .before .before .before .before .cipher-of .result in
+    let b = after-cipher-of-from-unit-of p .cipher-of .result in
     let t = head-back 1 b (read p .n + length (a .text .now)) w (line p) _ (s .pre .0 .0) n (h .put-head .ensures) in
     let e : record { mode = 1; cipher = b; n = read p .n + length (a .text .now); words = w } ≡ shown (moved (based (lineIn (line p))) (length (a .text .now))) =
     ap (λ (x : ℕ). record { mode = 1; cipher = x; n = read p .n + length (a .text .now); words = w }) (is-named p) ∙ g .0 ∙ ap (λ (l : Line). shown (moved (based l) (length (a .text .now)))) (is-line p) in

@@ -17,6 +17,17 @@ use borrow.Author.Needs.{needs}
 use Rattle.card_engine.proofs.run.Statement.{statement}
 use Rattle.card_engine.proofs.run.Tie as tie
 
+-- ---- places
+
+abbrev after-perform : tie.After-slice-known4 → tie.After-perform
+after-perform c = c .before .before .before .before
+
+abbrev after-card-ok : tie.After-d → tie.After-card-ok
+after-card-ok c = c .before .before .before .before
+
+abbrev after-d : tie.After-perform → tie.After-d
+after-d c = c .before .before .before .before
+
 -- ---- once the lines are looked at
 
 abbrev begun : tie.After-card-ok → tie.Start
@@ -50,7 +61,7 @@ returns-2 c =
 
 -- ---- once the command is read
 
-read : (c : tie.After-d) → decodeOf (lent (c .before .before .before .before) .command) ≡ Run (c .d .given .0 .0)
+read : (c : tie.After-d) → decodeOf (lent (after-card-ok c) .command) ≡ Run (c .d .given .0 .0)
 read c = sym (c .before .before .decode .ensures) ∙ c .d .given .1
 
 perform-requires : tie.Need-perform-requires
@@ -58,8 +69,8 @@ perform-requires c κs = let d = c .before .before .before in (sound (d .before 
 
 returns-3 : tie.Need-returns-3
 returns-3 c =
-    let p = c .before .before .before .before in
-    let d = p .before .before .before .before in
+    let p = after-perform c in
+    let d = after-d p in
     let e = d .before .before .before in
     answers (card (e .before)) (lent (e .before)) (sound e) (Run (d .d .given .0 .0)) (read d) (p .perform .ensures)
 

@@ -18,6 +18,11 @@ use borrow.Author.Needs.{needs}
 use Rattle.card_image.proofs.put.Statement.{statement}
 use Rattle.card_image.proofs.put.Tie as tie
 
+-- ---- places
+
+abbrev after-put-word : tie.After-put-words-arg4 → tie.After-put-word
+after-put-word c = c .before .before .before .before
+
 -- ---- once the cipher is read
 
 abbrev begun : tie.After-cipher-of → tie.Start
@@ -90,7 +95,7 @@ part-put-words-start-4 c = front-within (third (c .before .before .before))
 
 put-words-requires-2 : tie.Need-put-words-requires-2
 put-words-requires-2 c κs =
-    let k = c .before .before .before .before in
+    let k = after-put-word c in
     let s = begun (read (placed k)) in
     let f = s .pre .1 in
     let r = front-room (third k) 152 f in

@@ -17,6 +17,11 @@ Inv-loop w out₀ n i₀ out i = (i ≤ length w) × Front (spelt (take i w)) ou
 abbrev μ-loop : tie.MeasureT-loop
 μ-loop w out₀ n i₀ out i = length w - i
 
+-- ---- places
+
+abbrev at-loop : tie.After-put-word Inv-loop μ-loop → tie.At-loop Inv-loop μ-loop
+at-loop c = c .before .before .before .before
+
 loop-holds : tie.Need-loop-holds Inv-loop μ-loop
 loop-holds c = (search needs, front-none _)
 
@@ -32,7 +37,7 @@ put-word-requires c κs = let l = c .before .before .before in front-room (l .lo
 loop-again : tie.Need-loop-again Inv-loop μ-loop
 loop-again c =
     let k = c .before .before in
-    let p = k .before .before .before .before in
+    let p = at-loop k in
     let s = p .before .before .before in
     let a = s .args in (
       search needs,

@@ -16,6 +16,11 @@ use borrow.Author.Needs.{needs}
 use Rattle.card_keys.proofs.key_code.Statement.{statement}
 use Rattle.card_keys.proofs.key_code.Tie as tie
 
+-- ---- places
+
+abbrev after-iv-of : tie.Then2 → tie.After-iv-of
+after-iv-of c = c .before .before .before .before .before .before
+
 -- ---- once the cipher's lengths are known
 
 abbrev start : tie.After-iv-of → tie.Start
@@ -60,7 +65,7 @@ part-all-zero-start-2 c =
 
 returns-2 : tie.Need-returns-2
 returns-2 c =
-    let p = c .before .before .before .before .before .before in
+    let p = after-iv-of c in
     let a = start p .args in
     code-used (numberOf (a .cipher)) (a .key .now) (a .iv .now)
     (spare-iv (numberOf (a .cipher)) _ _ (a .key .now) (a .iv .now) (p .before .key-of .ensures) (p .iv-of .ensures)

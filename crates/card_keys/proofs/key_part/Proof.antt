@@ -15,6 +15,11 @@ use borrow.Author.Needs.{needs}
 use Rattle.card_keys.proofs.key_part.Statement.{statement}
 use Rattle.card_keys.proofs.key_part.Tie as tie
 
+-- ---- places
+
+abbrev after-key-field : tie.After-result2 → tie.After-key-field
+after-key-field c = c .before .before .before .before
+
 -- ---- once its bytes are lent
 
 abbrev start : tie.After-key-field → tie.Start
@@ -46,7 +51,7 @@ key-in c =
     omega (arith, c .key-of .ensures, whole p, f)
 
 slice-aggregate-result-2 : tie.Need-slice-aggregate-result-2
-slice-aggregate-result-2 c = sym (length-take-le _ (field (c .before .before .before .before)) (key-in (c .before)))
+slice-aggregate-result-2 c = sym (length-take-le _ (field (after-key-field c)) (key-in (c .before)))
 
 returns-2 : tie.Need-returns-2
 returns-2 c =

@@ -23,6 +23,14 @@ use borrow.Author.Needs.{needs}
 use Rattle.card_park.proofs.run_park.Statement.{statement}
 use Rattle.card_park.proofs.run_park.Tie as tie
 
+-- ---- places
+
+abbrev after-clear-line : tie.After-put-parked → tie.After-clear-line
+after-clear-line c = c .before .before .before .before
+
+abbrev after-put : tie.After-clear-line → tie.After-put
+after-put c = c .before .before .before .before
+
 -- ---- once the mode is read
 
 abbrev start : tie.After-mode-at → tie.Start
@@ -111,8 +119,8 @@ returns-4 : tie.Need-returns-4
 unfolding decided refuseIf lengthOf
 returns-4 c =
     let z = c .before .before .before in
-    let l = z .before .before .before .before in
-    let k = l .before .before .before .before in
+    let l = after-clear-line z in
+    let k = after-put l in
     let e3 = long l in
     let e2 = e3 .before in
     let p = e2 .before in

@@ -20,6 +20,11 @@ use borrow.Author.Needs.{needs}
 use Rattle.card_park.proofs.run_resume.Statement.{statement}
 use Rattle.card_park.proofs.run_resume.Tie as tie
 
+-- ---- places
+
+abbrev after-put-line : tie.After-take-up → tie.After-put-line
+after-put-line c = c .before .before .before .before
+
 -- ---- once the mode is read
 
 abbrev start : tie.After-mode-at → tie.Start
@@ -108,7 +113,7 @@ returns-4 : tie.Need-returns-4
 unfolding decided refuseIf lengthOf
 returns-4 c =
     let z = c .before .before .before in
-    let l = z .before .before .before .before in
+    let l = after-put-line z in
     let f = held l in
     let h = looked (f .before) in
     let ok = whole (f .before) in

@@ -9,10 +9,15 @@ use borrow.Author.Needs.{needs}
 use Rattle.card_state.proofs.put_register.Statement.{statement}
 use Rattle.card_state.proofs.put_register.Tie as tie
 
+-- ---- places
+
+abbrev start : tie.After-put-words → tie.Start
+start c = c .before .before .before .before
+
 returns : tie.Need-returns
 returns c =
     let p = c .before .before in
-    let a = p .before .before .before .before .args in
+    let a = start p .args in
     let n : length (a .t1) ≡ 16 = search needs in
     p .put-words .ensures ∙ ap (λ (l : List ℕ). (l ++ (a .x ∷ a .y ∷ [])) ++ drop 18 (a .w .now)) (sym (listed 16 (a .t1) n))
 

@@ -5,6 +5,11 @@ use borrow.Author.Needs.{needs}
 use Rattle.cardrun.proofs.run.Statement.{statement}
 use Rattle.cardrun.proofs.run.Tie as tie
 
+-- ---- places
+
+abbrev after-run : tie.After-table2 → tie.After-run
+after-run c = c .before .before .before .before
+
 array-share-prefix-out : tie.Need-array-share-prefix-out
 array-share-prefix-out c = out-within (c .run .ensures .left)
 
@@ -15,7 +20,7 @@ array-share-prefix-table : tie.Need-array-share-prefix-table
 array-share-prefix-table c = table-within (c .before .before .before .run .ensures .left)
 
 slice-aggregate-write-all : tie.Need-slice-aggregate-write-all
-slice-aggregate-write-all c = table-front (c .before .before .before .before .run .ensures .left)
+slice-aggregate-write-all c = table-front (after-run c .run .ensures .left)
 
 pub run-spec : {M : Type 1} → statement M
 run-spec =

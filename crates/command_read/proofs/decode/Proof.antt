@@ -9,6 +9,14 @@ use borrow.Author.Needs.{needs}
 use Rattle.command_read.proofs.decode.Statement.{statement}
 use Rattle.command_read.proofs.decode.Tie as tie
 
+-- ---- places
+
+abbrev else1 : tie.Then3 → tie.Else1
+else1 c = c .before .before .before .before
+
+abbrev else1-from-else3 : tie.Else3 → tie.Else1
+else1-from-else3 c = c .before .before .before .before
+
 returns : tie.Need-returns
 unfolding decodeOf
 returns c = simp (eq-eqb _ _ (c .if1 .taken))
@@ -24,7 +32,7 @@ unfolding decodeOf
 returns-3 c =
     let n = c .before .before .length-of .ensures in
     simp (
-      ne-eqb _ _ (c .before .before .before .before .if1 .left),
+      ne-eqb _ _ (else1 c .if1 .left),
       ne-eqb _ _ (λ e. c .before .if2 .left (n ∙ e)),
       lt-ltb _ _ (rw n at (c .if3 .taken)),
     )
@@ -44,7 +52,7 @@ returns-4 c =
     let e3 = c .before .before in
     let n = e3 .before .before .length-of .ensures in
     simp (
-      ne-eqb _ _ (e3 .before .before .before .before .if1 .left),
+      ne-eqb _ _ (else1-from-else3 e3 .if1 .left),
       ne-eqb _ _ (λ e. e3 .before .if2 .left (n ∙ e)),
       le-ltb _ _ (rw n at (e3 .if3 .left)),
       lt-ltb _ _ (c .if4 .taken),
@@ -63,7 +71,7 @@ returns-5 c =
     let e3 = c .before .before .before in
     let n = e3 .before .before .length-of .ensures in
     simp (
-      ne-eqb _ _ (e3 .before .before .before .before .if1 .left),
+      ne-eqb _ _ (else1-from-else3 e3 .if1 .left),
       ne-eqb _ _ (λ e. e3 .before .if2 .left (n ∙ e)),
       le-ltb _ _ (rw n at (e3 .if3 .left)),
       le-ltb _ _ (c .before .if4 .left),

@@ -7,17 +7,25 @@ use borrow.Author.Needs.{needs}
 use Rattle.command_read.proofs.read_open.Statement.{statement}
 use Rattle.command_read.proofs.read_open.Tie as tie
 
+-- ---- places
+
+abbrev after-read-cipher : tie.Then1 → tie.After-read-cipher
+after-read-cipher c = c .before .before .before .before
+
+abbrev after-read-cipher-from-else1 : tie.Else1 → tie.After-read-cipher
+after-read-cipher-from-else1 c = c .before .before .before .before
+
 returns : tie.Need-returns
 unfolding openOf
 returns c = simp (sym (c .before .before .read-cipher .ensures) ∙ c .enum-told .given .1)
 
 returns-2 : tie.Need-returns-2
 unfolding openOf
-returns-2 c = simp (sym (c .before .before .before .before .read-cipher .ensures) ∙ c .before .before .cipher .given .1, eq-eqb _ _ (c .if1 .taken))
+returns-2 c = simp (sym (after-read-cipher c .read-cipher .ensures) ∙ c .before .before .cipher .given .1, eq-eqb _ _ (c .if1 .taken))
 
 returns-3 : tie.Need-returns-3
 unfolding openOf
-returns-3 c = simp (sym (c .before .before .before .before .read-cipher .ensures) ∙ c .before .before .cipher .given .1, ne-eqb _ _ (c .if1 .left))
+returns-3 c = simp (sym (after-read-cipher-from-else1 c .read-cipher .ensures) ∙ c .before .before .cipher .given .1, ne-eqb _ _ (c .if1 .left))
 
 pub read-open-spec : {M : Type 1} → statement M
 read-open-spec =

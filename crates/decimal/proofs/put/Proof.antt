@@ -9,6 +9,11 @@ use borrow.Author.Needs.{needs}
 use Rattle.decimal.proofs.put.Statement.{statement}
 use Rattle.decimal.proofs.put.Tie as tie
 
+-- ---- places
+
+abbrev after-decimal : tie.After-slice-known2 → tie.After-decimal
+after-decimal c = c .before .before .before .before .before
+
 put-requires : tie.Need-put-requires
 put-requires c κs =
     let q = c .before .before in
@@ -20,7 +25,7 @@ put-requires c κs =
 
 slice-write-out : tie.Need-slice-write-out
 slice-write-out c =
-    let q = c .before .before .before .before .before in
+    let q = after-decimal c in
     let a = q .before .before .before in
     let h = places (a .args .n) (q .decimal .result) (search needs) (q .decimal .ensures .1 .0) in
     let r : 21 ≤ length (a .args .out .now) = a .pre in
@@ -29,19 +34,19 @@ slice-write-out c =
 
 add-result : tie.Need-add-result
 add-result c =
-    let q = c .before .before .before .before .before in
+    let q = after-decimal c in
     let a = q .before .before .before in
     let h = places (a .args .n) (q .decimal .result) (search needs) (q .decimal .ensures .1 .0) in
     record { fits = omega arith }
 
 same-length : tie.Need-same-length
 same-length c =
-    let q = c .before .before .before .before .before in
+    let q = after-decimal c in
     length-set (c .before .before .put .last .1 .0) (q .decimal .result) (q .before .before .before .args .end) ∙ c .before .before .put .kept .1 .0
 
 returns : tie.Need-returns
 returns c =
-    let q = c .before .before .before .before .before in
+    let q = after-decimal c in
     let a = q .before .before .before in
     number-put (a .args .n) (a .args .end) _ _ (a .args .out .now) _ (search needs) (q .decimal .ensures .1 .0) (q .decimal .ensures .0 .1)
     (q .decimal .ensures .1 .1) (a .pre) (c .before .before .put .ensures)

@@ -14,16 +14,30 @@ use borrow.Author.Needs.{needs}
 use Rattle.kcipher2_text.proofs.turn.Statement.{statement}
 use Rattle.kcipher2_text.proofs.turn.Tie as tie
 
+-- ---- places
+
+abbrev start : tie.After-fill-arg → tie.Start
+start c = c .before .before .before .before
+
+abbrev start-from-fill : tie.After-fill → tie.Start
+start-from-fill c = c .before .before .before .before .before
+
+abbrev joined1 : tie.After-slice-known5 → tie.Joined1
+joined1 c = c .before .before .before .before .before
+
+abbrev start-from-joined1 : tie.Joined1 → tie.Start
+start-from-joined1 c = c .before .before .before .before .before .before .before .before
+
 slice-aggregate-fill : tie.Need-slice-aggregate-fill
 slice-aggregate-fill c =
-    let k = c .before .before .before .before in
+    let k = start c in
     let h = k .pre .1 in
     let a = k .args in
     sym (length-take-le _ (a .ks .now) (omega arith))
 
 fill-requires : tie.Need-fill-requires
 fill-requires c κs =
-    let k = c .before .before .before .before in
+    let k = start c in
     let h = k .pre .1 in
     let n : ℕ = k .args .from + k .args .used in
     let l : length (take (n - n % 8) (k .args .ks .now)) ≡ n - n % 8 = length-take-le (n - n % 8) (k .args .ks .now) (omega arith) in
@@ -32,12 +46,12 @@ fill-requires c κs =
 -- where the arms meet
 ready : (c : tie.Joined1) →
     (let f = c .before .before .before in
-    let k = f .before .before .before .before .before in
+    let k = start-from-fill f in
     Ready gen (k .args .st) (k .args .from + k .args .used) (length (k .args .ks .now)) (f .fill .result) (c .if1 .ks))
 unfolding gen
 ready c =
     let f = c .before .before .before in
-    let k = f .before .before .before .before .before in
+    let k = start-from-fill f in
     let h = k .pre .1 in
     let a = k .args in
     let n : ℕ = a .from + a .used in
@@ -55,13 +69,13 @@ put-part-requires : tie.Need-put-part-requires
 put-part-requires c κs = let m = ready (c .before .before) .size-is in search needs
 
 same-length : tie.Need-same-length
-same-length c = ready (c .before .before .before .before .before) .size-is
+same-length c = ready (joined1 c) .size-is
 
 returns : tie.Need-returns
 returns c =
     let p = c .before .before in
     let j = p .before .before .before in
-    let h = j .before .before .before .before .before .before .before .before .pre .1 in
+    let h = start-from-joined1 j .pre .1 in
     did-ready gen (ready j) (omega arith) (p .put-part .ensures)
 
 pub turn-spec : {M : Type 1} → statement M

@@ -10,6 +10,11 @@ use borrow.Author.Needs.{needs}
 use Rattle.kcipher2_units.proofs.fill.Statement.{statement}
 use Rattle.kcipher2_units.proofs.fill.Tie as tie
 
+-- ---- places
+
+abbrev after-fours : tie.After-rest → tie.After-fours
+after-fours c = c .before .before .before .before
+
 -- the first part's length
 most : (c : tie.Start) →
     (let n : ℕ = length (c .args .ks .now) in
@@ -25,7 +30,7 @@ fours-requires c κs = let k = c .before .before in (k .pre .0, rw (most k) (ome
 returns : tie.Need-returns
 returns c =
     let r = c .before .before in
-    let f = r .before .before .before .before in
+    let f = after-fours r in
     let k = f .before .before .before in
     let h = k .pre .1 in
     let n : ℕ = length (k .args .ks .now) in

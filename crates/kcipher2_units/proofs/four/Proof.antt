@@ -13,6 +13,122 @@ use borrow.Author.Needs.{needs}
 use Rattle.kcipher2_units.proofs.four.Statement.{statement}
 use Rattle.kcipher2_units.proofs.four.Tie as tie
 
+-- ---- places
+
+abbrev after-right : tie.After-moved → tie.After-right
+after-right c = c .before .before .before .before .before .before .before .before
+
+abbrev after-sub-word : tie.After-moved → tie.After-sub-word
+after-sub-word c = c .before .before .before .before .before .before .before
+
+abbrev after-left : tie.After-moved → tie.After-left
+after-left c = c .before .before .before .before .before .before
+
+abbrev after-sub-word2 : tie.After-moved → tie.After-sub-word2
+after-sub-word2 c = c .before .before .before .before .before
+
+abbrev after-sub-word3 : tie.After-moved → tie.After-sub-word3
+after-sub-word3 c = c .before .before .before .before
+
+abbrev after-right2 : tie.After-moved2 → tie.After-right2
+after-right2 c = c .before .before .before .before .before .before .before .before
+
+abbrev after-sub-word5 : tie.After-moved2 → tie.After-sub-word5
+after-sub-word5 c = c .before .before .before .before .before .before .before
+
+abbrev after-left2 : tie.After-moved2 → tie.After-left2
+after-left2 c = c .before .before .before .before .before .before
+
+abbrev after-sub-word6 : tie.After-moved2 → tie.After-sub-word6
+after-sub-word6 c = c .before .before .before .before .before
+
+abbrev after-sub-word7 : tie.After-moved2 → tie.After-sub-word7
+after-sub-word7 c = c .before .before .before .before
+
+abbrev after-right3 : tie.After-moved3 → tie.After-right3
+after-right3 c = c .before .before .before .before .before .before .before .before
+
+abbrev after-sub-word9 : tie.After-moved3 → tie.After-sub-word9
+after-sub-word9 c = c .before .before .before .before .before .before .before
+
+abbrev after-left3 : tie.After-moved3 → tie.After-left3
+after-left3 c = c .before .before .before .before .before .before
+
+abbrev after-sub-word10 : tie.After-moved3 → tie.After-sub-word10
+after-sub-word10 c = c .before .before .before .before .before
+
+abbrev after-sub-word11 : tie.After-moved3 → tie.After-sub-word11
+after-sub-word11 c = c .before .before .before .before
+
+abbrev after-right4 : tie.After-moved4 → tie.After-right4
+after-right4 c = c .before .before .before .before .before .before .before .before
+
+abbrev after-sub-word13 : tie.After-moved4 → tie.After-sub-word13
+after-sub-word13 c = c .before .before .before .before .before .before .before
+
+abbrev after-left4 : tie.After-moved4 → tie.After-left4
+after-left4 c = c .before .before .before .before .before .before
+
+abbrev after-sub-word14 : tie.After-moved4 → tie.After-sub-word14
+after-sub-word14 c = c .before .before .before .before .before
+
+abbrev after-sub-word15 : tie.After-moved4 → tie.After-sub-word15
+after-sub-word15 c = c .before .before .before .before
+
+abbrev after-moved : tie.After-right2 → tie.After-moved
+after-moved c = c .before .before .before .before .before
+
+abbrev after-moved-from-left2 : tie.After-left2 → tie.After-moved
+after-moved-from-left2 c = c .before .before .before .before .before .before .before
+
+abbrev after-moved-from-sub-word6 : tie.After-sub-word6 → tie.After-moved
+after-moved-from-sub-word6 c = c .before .before .before .before .before .before .before .before
+
+abbrev after-moved-from-sub-word7 : tie.After-sub-word7 → tie.After-moved
+after-moved-from-sub-word7 c = c .before .before .before .before .before .before .before .before .before
+
+abbrev after-moved-from-sub-word8 : tie.After-sub-word8 → tie.After-moved
+after-moved-from-sub-word8 c = c .before .before .before .before .before .before .before .before .before .before
+
+abbrev after-moved-from-feed-a2 : tie.After-feed-a2 → tie.After-moved
+after-moved-from-feed-a2 c = c .before .before .before .before .before .before .before .before .before .before .before
+
+abbrev after-moved2 : tie.After-right3 → tie.After-moved2
+after-moved2 c = c .before .before .before .before .before
+
+abbrev after-moved2-from-left3 : tie.After-left3 → tie.After-moved2
+after-moved2-from-left3 c = c .before .before .before .before .before .before .before
+
+abbrev after-moved2-from-sub-word10 : tie.After-sub-word10 → tie.After-moved2
+after-moved2-from-sub-word10 c = c .before .before .before .before .before .before .before .before
+
+abbrev after-moved2-from-sub-word11 : tie.After-sub-word11 → tie.After-moved2
+after-moved2-from-sub-word11 c = c .before .before .before .before .before .before .before .before .before
+
+abbrev after-moved2-from-sub-word12 : tie.After-sub-word12 → tie.After-moved2
+after-moved2-from-sub-word12 c = c .before .before .before .before .before .before .before .before .before .before
+
+abbrev after-moved2-from-feed-a3 : tie.After-feed-a3 → tie.After-moved2
+after-moved2-from-feed-a3 c = c .before .before .before .before .before .before .before .before .before .before .before
+
+abbrev after-moved3 : tie.After-right4 → tie.After-moved3
+after-moved3 c = c .before .before .before .before .before
+
+abbrev after-moved3-from-left4 : tie.After-left4 → tie.After-moved3
+after-moved3-from-left4 c = c .before .before .before .before .before .before .before
+
+abbrev after-moved3-from-sub-word14 : tie.After-sub-word14 → tie.After-moved3
+after-moved3-from-sub-word14 c = c .before .before .before .before .before .before .before .before
+
+abbrev after-moved3-from-sub-word15 : tie.After-sub-word15 → tie.After-moved3
+after-moved3-from-sub-word15 c = c .before .before .before .before .before .before .before .before .before
+
+abbrev after-moved3-from-sub-word16 : tie.After-sub-word16 → tie.After-moved3
+after-moved3-from-sub-word16 c = c .before .before .before .before .before .before .before .before .before .before
+
+abbrev after-moved3-from-feed-a4 : tie.After-feed-a4 → tie.After-moved3
+after-moved3-from-feed-a4 c = c .before .before .before .before .before .before .before .before .before .before .before
+
 -- ---- the end of each step: the unit before it, the entry, the buffer, its length and the state
 
 abbrev written1 : tie.After-moved → tie.After-unit
@@ -30,8 +146,8 @@ size1 c = written1 c .unit .kept .1 .0
 step1 : (c : tie.After-moved) → c .moved .result ≡ next (entry1 c .args .st)
 step1 c =
     stepped (entry1 c .args .st) _ _ _ _ _ _ _ _ _ (c .before .before .feed-a .ensures) (c .before .feed-b .ensures)
-    (c .before .before .before .before .before .before .before .before .right .ensures) (c .before .before .before .before .before .before .before .sub-word .ensures) (c .before .before .before .before .before .before .left .ensures) (c .before .before .before .before .before .sub-word2 .ensures)
-    (c .before .before .before .before .sub-word3 .ensures) (c .before .before .before .sub-word4 .ensures) (c .moved .ensures)
+    (after-right c .right .ensures) (after-sub-word c .sub-word .ensures) (after-left c .left .ensures) (after-sub-word2 c .sub-word2 .ensures)
+    (after-sub-word3 c .sub-word3 .ensures) (c .before .before .before .sub-word4 .ensures) (c .moved .ensures)
 
 abbrev written2 : tie.After-moved2 → tie.After-unit2
 written2 c = c .before .before .before .before .before .before .before .before .before .before .before
@@ -55,8 +171,8 @@ size2 c =
 step2 : (c : tie.After-moved2) → c .moved2 .result ≡ next (before2 c .moved .result)
 step2 c =
     stepped (before2 c .moved .result) _ _ _ _ _ _ _ _ _ (c .before .before .feed-a2 .ensures) (c .before .feed-b2 .ensures)
-    (c .before .before .before .before .before .before .before .before .right2 .ensures) (c .before .before .before .before .before .before .before .sub-word5 .ensures) (c .before .before .before .before .before .before .left2 .ensures) (c .before .before .before .before .before .sub-word6 .ensures)
-    (c .before .before .before .before .sub-word7 .ensures) (c .before .before .before .sub-word8 .ensures) (c .moved2 .ensures)
+    (after-right2 c .right2 .ensures) (after-sub-word5 c .sub-word5 .ensures) (after-left2 c .left2 .ensures) (after-sub-word6 c .sub-word6 .ensures)
+    (after-sub-word7 c .sub-word7 .ensures) (c .before .before .before .sub-word8 .ensures) (c .moved2 .ensures)
 
 abbrev written3 : tie.After-moved3 → tie.After-unit3
 written3 c = c .before .before .before .before .before .before .before .before .before .before .before
@@ -80,8 +196,8 @@ size3 c =
 step3 : (c : tie.After-moved3) → c .moved3 .result ≡ next (before3 c .moved2 .result)
 step3 c =
     stepped (before3 c .moved2 .result) _ _ _ _ _ _ _ _ _ (c .before .before .feed-a3 .ensures) (c .before .feed-b3 .ensures)
-    (c .before .before .before .before .before .before .before .before .right3 .ensures) (c .before .before .before .before .before .before .before .sub-word9 .ensures) (c .before .before .before .before .before .before .left3 .ensures) (c .before .before .before .before .before .sub-word10 .ensures)
-    (c .before .before .before .before .sub-word11 .ensures) (c .before .before .before .sub-word12 .ensures) (c .moved3 .ensures)
+    (after-right3 c .right3 .ensures) (after-sub-word9 c .sub-word9 .ensures) (after-left3 c .left3 .ensures) (after-sub-word10 c .sub-word10 .ensures)
+    (after-sub-word11 c .sub-word11 .ensures) (c .before .before .before .sub-word12 .ensures) (c .moved3 .ensures)
 
 abbrev written4 : tie.After-moved4 → tie.After-unit4
 written4 c = c .before .before .before .before .before .before .before .before .before .before .before
@@ -105,8 +221,8 @@ size4 c =
 step4 : (c : tie.After-moved4) → c .moved4 .result ≡ next (before4 c .moved3 .result)
 step4 c =
     stepped (before4 c .moved3 .result) _ _ _ _ _ _ _ _ _ (c .before .before .feed-a4 .ensures) (c .before .feed-b4 .ensures)
-    (c .before .before .before .before .before .before .before .before .right4 .ensures) (c .before .before .before .before .before .before .before .sub-word13 .ensures) (c .before .before .before .before .before .before .left4 .ensures) (c .before .before .before .before .before .sub-word14 .ensures)
-    (c .before .before .before .before .sub-word15 .ensures) (c .before .before .before .sub-word16 .ensures) (c .moved4 .ensures)
+    (after-right4 c .right4 .ensures) (after-sub-word13 c .sub-word13 .ensures) (after-left4 c .left4 .ensures) (after-sub-word14 c .sub-word14 .ensures)
+    (after-sub-word15 c .sub-word15 .ensures) (c .before .before .before .sub-word16 .ensures) (c .moved4 .ensures)
 
 -- ---- the needs
 
@@ -179,38 +295,38 @@ four-spec =
     (λ c. omega arith)
     unit-requires-2
     (λ c κs. search needs)
-    (λ c κs. entry1 (c .before .before .before .before .before) .pre .0 .is-column)
+    (λ c κs. entry1 (after-moved c) .pre .0 .is-column)
     (λ c κs. search needs)
-    (λ c κs. entry1 (c .before .before .before .before .before .before .before) .pre .0 .is-column)
-    (λ c κs. entry1 (c .before .before .before .before .before .before .before .before) .pre .0 .is-column)
-    (λ c κs. entry1 (c .before .before .before .before .before .before .before .before .before) .pre .0 .is-column)
-    (λ c κs. entry1 (c .before .before .before .before .before .before .before .before .before .before) .pre .0 .is-alpha0)
-    (λ c κs. let l = entry1 (c .before .before .before .before .before .before .before .before .before .before .before) .pre .0 in (l .is-alpha1, (l .is-alpha2, l .is-alpha3)))
+    (λ c κs. entry1 (after-moved-from-left2 c) .pre .0 .is-column)
+    (λ c κs. entry1 (after-moved-from-sub-word6 c) .pre .0 .is-column)
+    (λ c κs. entry1 (after-moved-from-sub-word7 c) .pre .0 .is-column)
+    (λ c κs. entry1 (after-moved-from-sub-word8 c) .pre .0 .is-alpha0)
+    (λ c κs. let l = entry1 (after-moved-from-feed-a2 c) .pre .0 in (l .is-alpha1, (l .is-alpha2, l .is-alpha3)))
     (λ c κs. search needs)
     sub-unit-2
     part-unit-start-2
     (λ c. omega arith)
     unit-requires-3
     (λ c κs. search needs)
-    (λ c κs. entry2 (c .before .before .before .before .before) .pre .0 .is-column)
+    (λ c κs. entry2 (after-moved2 c) .pre .0 .is-column)
     (λ c κs. search needs)
-    (λ c κs. entry2 (c .before .before .before .before .before .before .before) .pre .0 .is-column)
-    (λ c κs. entry2 (c .before .before .before .before .before .before .before .before) .pre .0 .is-column)
-    (λ c κs. entry2 (c .before .before .before .before .before .before .before .before .before) .pre .0 .is-column)
-    (λ c κs. entry2 (c .before .before .before .before .before .before .before .before .before .before) .pre .0 .is-alpha0)
-    (λ c κs. let l = entry2 (c .before .before .before .before .before .before .before .before .before .before .before) .pre .0 in (l .is-alpha1, (l .is-alpha2, l .is-alpha3)))
+    (λ c κs. entry2 (after-moved2-from-left3 c) .pre .0 .is-column)
+    (λ c κs. entry2 (after-moved2-from-sub-word10 c) .pre .0 .is-column)
+    (λ c κs. entry2 (after-moved2-from-sub-word11 c) .pre .0 .is-column)
+    (λ c κs. entry2 (after-moved2-from-sub-word12 c) .pre .0 .is-alpha0)
+    (λ c κs. let l = entry2 (after-moved2-from-feed-a3 c) .pre .0 in (l .is-alpha1, (l .is-alpha2, l .is-alpha3)))
     (λ c κs. search needs)
     sub-unit-3
     part-unit-start-3
     (λ c. omega arith)
     unit-requires-4
     (λ c κs. search needs)
-    (λ c κs. entry3 (c .before .before .before .before .before) .pre .0 .is-column)
+    (λ c κs. entry3 (after-moved3 c) .pre .0 .is-column)
     (λ c κs. search needs)
-    (λ c κs. entry3 (c .before .before .before .before .before .before .before) .pre .0 .is-column)
-    (λ c κs. entry3 (c .before .before .before .before .before .before .before .before) .pre .0 .is-column)
-    (λ c κs. entry3 (c .before .before .before .before .before .before .before .before .before) .pre .0 .is-column)
-    (λ c κs. entry3 (c .before .before .before .before .before .before .before .before .before .before) .pre .0 .is-alpha0)
-    (λ c κs. let l = entry3 (c .before .before .before .before .before .before .before .before .before .before .before) .pre .0 in (l .is-alpha1, (l .is-alpha2, l .is-alpha3)))
+    (λ c κs. entry3 (after-moved3-from-left4 c) .pre .0 .is-column)
+    (λ c κs. entry3 (after-moved3-from-sub-word14 c) .pre .0 .is-column)
+    (λ c κs. entry3 (after-moved3-from-sub-word15 c) .pre .0 .is-column)
+    (λ c κs. entry3 (after-moved3-from-sub-word16 c) .pre .0 .is-alpha0)
+    (λ c κs. let l = entry3 (after-moved3-from-feed-a4 c) .pre .0 in (l .is-alpha1, (l .is-alpha2, l .is-alpha3)))
     (λ c κs. search needs)
     same-length returns)

@@ -16,6 +16,11 @@ Inv-loop m0 m1 m2 m3 t ks₀ s₀ at₀ ks s at = (at % 32 ≡ 0) × Filling gen
 abbrev μ-loop : tie.MeasureT-loop
 μ-loop m0 m1 m2 m3 t ks₀ s₀ at₀ ks s at = length ks₀ - at
 
+-- ---- places
+
+abbrev at-loop : tie.After-slice-known2 Inv-loop μ-loop → tie.At-loop Inv-loop μ-loop
+at-loop c = c .before .before .before .before .before
+
 four-requires : tie.Need-four-requires Inv-loop μ-loop
 four-requires c κs =
     let l = c .before .before in
@@ -27,7 +32,7 @@ four-requires c κs =
 
 add-at : tie.Need-add-at Inv-loop μ-loop
 add-at c =
-    let l = c .before .before .before .before .before in
+    let l = at-loop c in
     let w = l .loop .inv .0 in
     let h = l .before .before .pre .1 in
     let m = l .loop .inv .1 .same-length in
@@ -62,4 +67,4 @@ pub fours-spec : {M : Type 1} → statement M
 unfolding gen
 fours-spec =
     tie.close (tie.spec Inv-loop μ-loop (λ c. (refl, filling-start gen 8 (omega arith) refl)) (λ c. omega arith) (λ c. omega arith) (λ c. omega arith) four-requires add-at
-    (λ c. let l = c .before .before .before .before .before in let m = l .loop .inv .1 .same-length in omega arith) loop-again same-length returns)
+    (λ c. let l = at-loop c in let m = l .loop .inv .1 .same-length in omega arith) loop-again same-length returns)

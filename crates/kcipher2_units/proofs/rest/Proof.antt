@@ -18,6 +18,11 @@ Inv-loop m0 m1 m2 m3 t ks₀ s₀ at₀ ks s at = Filling gen 8 s₀ ks₀ ks s 
 abbrev μ-loop : tie.MeasureT-loop
 μ-loop m0 m1 m2 m3 t ks₀ s₀ at₀ ks s at = length ks₀ - at
 
+-- ---- places
+
+abbrev at-loop : tie.After-step Inv-loop μ-loop → tie.At-loop Inv-loop μ-loop
+at-loop c = c .before .before .before .before .before .before
+
 unit-requires : tie.Need-unit-requires Inv-loop μ-loop
 unit-requires c κs =
     let l = c .before .before in
@@ -29,7 +34,7 @@ unit-requires c κs =
 
 add-at : tie.Need-add-at Inv-loop μ-loop
 add-at c =
-    let l = c .before .before .before .before .before .before in
+    let l = at-loop c in
     let i = l .loop .inv in
     let h = l .before .before .pre .1 in
     let w = i .whole in
@@ -65,4 +70,4 @@ pub rest-spec : {M : Type 1} → statement M
 unfolding gen
 rest-spec =
     tie.close (tie.spec Inv-loop μ-loop (λ c. filling-start gen 8 (omega arith) refl) (λ c. omega arith) (λ c. omega arith) (λ c. omega arith) unit-requires (λ c κs. search needs) add-at
-    (λ c. let l = c .before .before .before .before .before .before in let m = l .loop .inv .same-length in omega arith) loop-again same-length returns)
+    (λ c. let l = at-loop c in let m = l .loop .inv .same-length in omega arith) loop-again same-length returns)

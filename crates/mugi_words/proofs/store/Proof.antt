@@ -9,11 +9,16 @@ use borrow.Author.Needs.{needs}
 use Rattle.mugi_words.proofs.store.Statement.{statement}
 use Rattle.mugi_words.proofs.store.Tie as tie
 
+-- ---- places
+
+abbrev start : tie.After-words-of → tie.Start
+start c = c .before .before .before .before
+
 returns : tie.Need-returns
 returns c =
     let p = c .before .before in
     let r = p .before .before .before in
-    let s = r .before .before .before .before in
+    let s = start r in
     let n : length (r .words-of .result) ≡ stateWords = search needs in
     put-whole (r .words-of .result) (s .args .w .now) n (s .pre) (p .put-words .ensures) ∙ r .words-of .ensures ∙ words-is (s .args .st) (search needs) (search needs)
 

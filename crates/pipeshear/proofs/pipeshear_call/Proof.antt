@@ -10,6 +10,11 @@ use borrow.Author.Needs.{needs}
 use Rattle.pipeshear.proofs.pipeshear_call.Statement.{statement}
 use Rattle.pipeshear.proofs.pipeshear_call.Tie as tie
 
+-- ---- places
+
+abbrev after-run : tie.After-put-counts2 → tie.After-run
+after-run c = c .before .before .before .before .before .before
+
 -- ---- once it is known what is lent
 
 abbrev start : tie.After-slice-known3 → tie.Start
@@ -45,7 +50,7 @@ returns-2 c =
 returns-3 : tie.Need-returns-3
 returns-3 c =
     let k = c .before .before in
-    let r = k .before .before .before .before .before .before in
+    let r = after-run k in
     let e = r .before .before .before in
     let p = e .before .before in
     let a = start p .args in

@@ -7,13 +7,27 @@ use borrow.Author.Needs.{needs}
 use Rattle.rabbit.proofs.gs.Statement.{statement}
 use Rattle.rabbit.proofs.gs.Tie as tie
 
+-- ---- places
+
+abbrev after-g : tie.After-g8 → tie.After-g
+after-g c = c .before .before .before .before .before .before .before
+
+abbrev after-g2 : tie.After-g8 → tie.After-g2
+after-g2 c = c .before .before .before .before .before .before
+
+abbrev after-g3 : tie.After-g8 → tie.After-g3
+after-g3 c = c .before .before .before .before .before
+
+abbrev after-g4 : tie.After-g8 → tie.After-g4
+after-g4 c = c .before .before .before .before
+
 returns : tie.Need-returns
 unfolding gs
 returns c =
-    cons (c .before .before .before .before .before .before .before .g .ensures)
-    (cons (c .before .before .before .before .before .before .g2 .ensures)
-    (cons (c .before .before .before .before .before .g3 .ensures)
-    (cons (c .before .before .before .before .g4 .ensures)
+    cons (after-g c .g .ensures)
+    (cons (after-g2 c .g2 .ensures)
+    (cons (after-g3 c .g3 .ensures)
+    (cons (after-g4 c .g4 .ensures)
     (cons (c .before .before .before .g5 .ensures)
     (cons (c .before .before .g6 .ensures)
     (cons (c .before .g7 .ensures)

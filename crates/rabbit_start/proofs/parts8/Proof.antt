@@ -7,13 +7,27 @@ use borrow.Author.Needs.{needs}
 use Rattle.rabbit_start.proofs.parts8.Statement.{statement}
 use Rattle.rabbit_start.proofs.parts8.Tie as tie
 
+-- ---- places
+
+abbrev after-half-at : tie.After-half-at8 → tie.After-half-at
+after-half-at c = c .before .before .before .before .before .before .before
+
+abbrev after-half-at2 : tie.After-half-at8 → tie.After-half-at2
+after-half-at2 c = c .before .before .before .before .before .before
+
+abbrev after-half-at3 : tie.After-half-at8 → tie.After-half-at3
+after-half-at3 c = c .before .before .before .before .before
+
+abbrev after-half-at4 : tie.After-half-at8 → tie.After-half-at4
+after-half-at4 c = c .before .before .before .before
+
 returns : tie.Need-returns
 unfolding parts8
 returns c =
-    cons (c .before .before .before .before .before .before .before .half-at .ensures)
-    (cons (c .before .before .before .before .before .before .half-at2 .ensures)
-    (cons (c .before .before .before .before .before .half-at3 .ensures)
-    (cons (c .before .before .before .before .half-at4 .ensures)
+    cons (after-half-at c .half-at .ensures)
+    (cons (after-half-at2 c .half-at2 .ensures)
+    (cons (after-half-at3 c .half-at3 .ensures)
+    (cons (after-half-at4 c .half-at4 .ensures)
     (cons (c .before .before .before .half-at5 .ensures)
     (cons (c .before .before .half-at6 .ensures)
     (cons (c .before .half-at7 .ensures)

@@ -18,6 +18,14 @@ Inv-loop ks₀ s₀ at₀ ks s at = Filling gen 16 s₀ ks₀ ks s at
 abbrev μ-loop : tie.MeasureT-loop
 μ-loop ks₀ s₀ at₀ ks s at = length ks₀ - at
 
+-- ---- places
+
+abbrev at-loop : tie.After-mix Inv-loop μ-loop → tie.At-loop Inv-loop μ-loop
+at-loop c = c .before .before .before .before .before .before .before .before .before .before .before
+
+abbrev after-unit : tie.After-mix Inv-loop μ-loop → tie.After-unit Inv-loop μ-loop
+after-unit c = c .before .before .before .before .before .before .before .before
+
 unit-requires : tie.Need-unit-requires Inv-loop μ-loop
 unit-requires c κs =
     let l = c .before .before in
@@ -29,7 +37,7 @@ unit-requires c κs =
 
 add-at : tie.Need-add-at Inv-loop μ-loop
 add-at c =
-    let l = c .before .before .before .before .before .before .before .before .before .before .before in
+    let l = at-loop c in
     let i = l .loop .inv in
     let h = l .before .before .pre in
     let w = i .whole in
@@ -39,7 +47,7 @@ add-at c =
 loop-again : tie.Need-loop-again Inv-loop μ-loop
 unfolding gen
 loop-again c =
-    let p = c .before .before .before .before .before .before .before .before in
+    let p = after-unit c in
     let l = p .before .before .before in
     let i = l .loop .inv in
     let h = l .before .before .pre in
@@ -66,5 +74,5 @@ unfolding gen
 fill-spec =
     tie.close (tie.spec Inv-loop μ-loop (λ c. filling-start gen 16 (omega arith) refl) (λ c. omega arith) (λ c. omega arith) (λ c. omega arith) unit-requires (λ c κs. search needs)
     (λ c κs. search needs) (λ c κs. search needs) add-at
-    (λ c. let l = c .before .before .before .before .before .before .before .before .before .before .before in let m = l .loop .inv .same-length in omega arith) loop-again same-length
+    (λ c. let l = at-loop c in let m = l .loop .inv .same-length in omega arith) loop-again same-length
     returns)

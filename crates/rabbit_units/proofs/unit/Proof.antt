@@ -6,12 +6,23 @@ use borrow.Author.Needs.{needs}
 use Rattle.rabbit_units.proofs.unit.Statement.{statement}
 use Rattle.rabbit_units.proofs.unit.Tie as tie
 
+-- ---- places
+
+abbrev after-put-up3 : tie.After-put-up4 → tie.After-put-up3
+after-put-up3 c = c .before .before .before .before
+
+abbrev after-put-up2 : tie.After-put-up3 → tie.After-put-up2
+after-put-up2 c = c .before .before .before .before
+
+abbrev after-put-up : tie.After-put-up2 → tie.After-put-up
+after-put-up c = c .before .before .before .before
+
 returns : tie.Need-returns
 returns c =
     let p4 = c .before .before in
-    let p3 = p4 .before .before .before .before in
-    let p2 = p3 .before .before .before .before in
-    let p1 = p2 .before .before .before .before in
+    let p3 = after-put-up3 p4 in
+    let p2 = after-put-up2 p3 in
+    let p1 = after-put-up p2 in
     let o = p1 .before .before in
     let k = o .before .before in
     unit-put (k .args .st) (o .output .result) (k .args .ks .now) _ _ _ _ (o .output .ensures) (k .pre)

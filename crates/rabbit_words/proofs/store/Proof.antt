@@ -9,10 +9,15 @@ use borrow.Author.Needs.{needs}
 use Rattle.rabbit_words.proofs.store.Statement.{statement}
 use Rattle.rabbit_words.proofs.store.Tie as tie
 
+-- ---- places
+
+abbrev start : tie.After-put-words → tie.Start
+start c = c .before .before .before .before .before .before .before
+
 returns : tie.Need-returns
 returns c =
     let p = c .before .before in
-    let s = p .before .before .before .before .before .before .before in
+    let s = start p in
     p .put-words .ensures ∙ ap (λ (l : List ℕ). l ++ drop 17 (s .args .w .now)) (own-is (s .args .st) (search needs) (search needs))
 
 pub store-spec : {M : Type 1} → statement M

@@ -18,11 +18,19 @@ use borrow.Author.Needs.{needs}
 use Rattle.rabbit_words.proofs.xor_text.Statement.{statement}
 use Rattle.rabbit_words.proofs.xor_text.Tie as tie
 
+-- ---- places
+
+abbrev after-slice-known : tie.After-crypt → tie.After-slice-known
+after-slice-known c = c .before .before .before .before .before .before
+
+abbrev after-crypt : tie.After-slice-known4 → tie.After-crypt
+after-crypt c = c .before .before .before .before .before .before
+
 store-requires : tie.Need-store-requires
 unfolding rabbit gen
 store-requires c κs =
     let q = c .before .before .before in
-    let k = q .before .before .before .before .before .before in
+    let k = after-slice-known q in
     let s = k .before in
     let a = s .args in
     let n : length (a .w .now) ≡ stateWords = s .pre .0 .0 in
@@ -31,8 +39,8 @@ store-requires c κs =
 returns : tie.Need-returns
 unfolding rabbit gen
 returns c =
-    let q = c .before .before .before .before .before .before in
-    let k = q .before .before .before .before .before .before in
+    let q = after-crypt c in
+    let k = after-slice-known q in
     let s = k .before in
     let a = s .args in
     row-along rabbitFace InRange rabbit-laws (a .skip) (a .text .now) (a .out .now) (lent-fit (a .w .now) (λ i. k .slice-known .given i .fits) (s .pre .0 .0) (s .pre .0 .1)) (q .before .before .load .ensures)

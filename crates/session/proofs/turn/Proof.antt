@@ -8,10 +8,18 @@ use borrow.Author.Needs.{needs}
 use Rattle.session.proofs.turn.Statement.{statement}
 use Rattle.session.proofs.turn.Tie as tie
 
+-- ---- places
+
+abbrev after-call : tie.After-kept → tie.After-call
+after-call c = c .before .before .before .before .before .before .before .before
+
+abbrev start : tie.After-call → tie.Start
+start c = c .before .before .before .before .before .before .before .before .before .before .before
+
 add-command : tie.Need-add-command
 add-command c =
-    let k = c .before .before .before .before .before .before .before .before in
-    let s = k .before .before .before .before .before .before .before .before .before .before .before in
+    let k = after-call c in
+    let s = start k in
     let a = s .args in
     let h = command-within (a .p) (a .commands .now) (a .tray .now) (a .text .now) (a .out .now) _ _ (k .call .ensures) in
     let l : length (a .commands .now) < 2 ^ 63 = search needs in
@@ -20,8 +28,8 @@ add-command c =
 
 add-data : tie.Need-add-data
 add-data c =
-    let k = c .before .before .before .before .before .before .before .before in
-    let s = k .before .before .before .before .before .before .before .before .before .before .before in
+    let k = after-call c in
+    let s = start k in
     let a = s .args in
     let h = text-within (a .p) (a .commands .now) (a .tray .now) (a .text .now) (a .out .now) _ _ (k .call .ensures) in
     let l : length (a .text .now) < 2 ^ 63 = search needs in
@@ -30,8 +38,8 @@ add-data c =
 
 add-filled : tie.Need-add-filled
 add-filled c =
-    let k = c .before .before .before .before .before .before .before .before in
-    let s = k .before .before .before .before .before .before .before .before .before .before .before in
+    let k = after-call c in
+    let s = start k in
     let a = s .args in
     let h = out-within (a .p) (a .commands .now) (a .tray .now) (a .text .now) (a .out .now) _ _ (k .call .ensures) (k .call .kept .1 .1 .1 .1 .0) in
     let l : length (a .out .now) < 2 ^ 63 = search needs in
@@ -40,8 +48,8 @@ add-filled c =
 
 returns : tie.Need-returns
 returns c =
-    let k = c .before .before .before .before .before .before .before .before in
-    let s = k .before .before .before .before .before .before .before .before .before .before .before in
+    let k = after-call c in
+    let s = start k in
     let a = s .args in
     turned (a .p) (a .commands .now) (a .tray .now) (a .text .now) (a .out .now) _ _ (k .call .ensures) (a .table .now) _ _ (s .pre .out-in)
     (c .before .before .before .put-row .ensures)

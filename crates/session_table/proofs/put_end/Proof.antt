@@ -8,11 +8,22 @@ use borrow.Author.Needs.{needs}
 use Rattle.session_table.proofs.put_end.Statement.{statement}
 use Rattle.session_table.proofs.put_end.Tie as tie
 
+-- ---- places
+
+abbrev after-put : tie.After-put-figure → tie.After-put
+after-put c = c .before .before .before .before
+
+abbrev start : tie.After-put → tie.Start
+start c = c .before .before .before .before
+
+abbrev after-put-figure : tie.After-put-figure2 → tie.After-put-figure
+after-put-figure c = c .before .before .before .before
+
 put-figure-requires-2 : tie.Need-put-figure-requires-2
 put-figure-requires-2 c κs =
     let p2 = c .before .before .before in
-    let p1 = p2 .before .before .before .before in
-    let a = p1 .before .before .before .before in
+    let p1 = after-put p2 in
+    let a = start p1 in
     let h = a .pre in
     let l = behind-length (behind-part last _ (a .args .out .now) (a .args .at) 4 refl (omega arith) (p1 .put .ensures)) in
     figure-room _ _ (p2 .put-figure .ensures) 21 (omega arith)
@@ -21,9 +32,9 @@ returns : tie.Need-returns
 unfolding endOf
 returns c =
     let p3 = c .before .before in
-    let p2 = p3 .before .before .before .before in
-    let p1 = p2 .before .before .before .before in
-    let a = p1 .before .before .before .before in
+    let p2 = after-put-figure p3 in
+    let p1 = after-put p2 in
+    let a = start p1 in
     let h = a .pre in
     behind-more
     (behind-more (behind-part last _ (a .args .out .now) (a .args .at) 4 refl (omega arith) (p1 .put .ensures)) (p2 .put-figure .ensures))

@@ -9,9 +9,14 @@ use borrow.Author.Needs.{needs}
 use Rattle.session_table.proofs.put_figure.Statement.{statement}
 use Rattle.session_table.proofs.put_figure.Tie as tie
 
+-- ---- places
+
+abbrev start : tie.After-slice-known2 → tie.Start
+start c = c .before .before .before .before .before
+
 add-result : tie.Need-add-result
 add-result c =
-    let a = c .before .before .before .before .before in
+    let a = start c in
     let e = c .before .before .put .ensures .0 in
     let h = a .pre in
     let m = figure-most (a .args .n) (a .args .end) in
@@ -20,7 +25,7 @@ add-result c =
 
 returns : tie.Need-returns
 returns c =
-    let a = c .before .before .before .before .before in
+    let a = start c in
     let e = c .before .before .put .ensures in
     let h = a .pre in
     behind-part _ _ (a .args .out .now) (a .args .at) _ (sym (e .0)) (omega (arith, e .0, figure-most (a .args .n) (a .args .end))) (e .1)

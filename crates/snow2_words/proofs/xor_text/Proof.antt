@@ -13,11 +13,19 @@ use borrow.Author.Needs.{needs}
 use Rattle.snow2_words.proofs.xor_text.Statement.{statement}
 use Rattle.snow2_words.proofs.xor_text.Tie as tie
 
+-- ---- places
+
+abbrev after-crypt : tie.After-slice-known4 → tie.After-crypt
+after-crypt c = c .before .before .before .before .before .before
+
+abbrev after-slice-known : tie.After-crypt → tie.After-slice-known
+after-slice-known c = c .before .before .before .before .before .before
+
 returns : tie.Need-returns
 unfolding snow128 gen snow2Words
 returns c =
-    let q = c .before .before .before .before .before .before in
-    let k = q .before .before .before .before .before .before in
+    let q = after-crypt c in
+    let k = after-slice-known q in
     let s = k .before in
     let a = s .args in
     let t = q .crypt .result in

@@ -19,6 +19,11 @@ Inv-loop ks from count text out₀ i₀ out i = (i ≤ count) × (out ≡ xorFro
 abbrev μ-loop : tie.MeasureT-loop
 μ-loop ks from count text out₀ i₀ out i = count - i
 
+-- ---- places
+
+abbrev start : tie.After-shared-slice-known2 Inv-loop μ-loop → tie.Start Inv-loop μ-loop
+start c = c .before .before .before .before
+
 loop-holds : tie.Need-loop-holds Inv-loop μ-loop
 unfolding xorFrom
 loop-holds c = (omega arith, refl)
@@ -26,13 +31,13 @@ loop-holds c = (omega arith, refl)
 slice-write-out : tie.Need-slice-write-out Inv-loop μ-loop
 slice-write-out c =
     let l = c .before .before .before .loop in
-    let a = c .before .before .before .before .args in
+    let a = start c .args in
     omega (arith, ap length (l .inv .1), fill-length (λ j. getD (a .ks .now) j 0) (a .from) (l .i) (a .text .now) (a .out .now) (omega arith) (omega arith))
 
 loop-again : tie.Need-loop-again Inv-loop μ-loop
 loop-again c =
     let l = c .before .before .before .loop in
-    let a = c .before .before .before .before .args in (
+    let a = start c .args in (
       omega arith,
       ap (λ (o : List ℕ). set o (l .i) (getD (a .text .now) (l .i) 0 ⊕ getD (a .ks .now) (a .from + l .i) 0)) (l .inv .1)
           ∙ fill-byte (λ j. getD (a .ks .now) j 0) (a .from) (l .i) (a .text .now) (a .out .now) (omega arith) (omega arith)

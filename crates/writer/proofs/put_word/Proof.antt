@@ -7,12 +7,17 @@ use borrow.Author.Needs.{needs}
 use Rattle.writer.proofs.put_word.Statement.{statement}
 use Rattle.writer.proofs.put_word.Tie as tie
 
+-- ---- places
+
+abbrev start : tie.After-wide → tie.Start
+start c = c .before .before .before .before
+
 returns : tie.Need-returns
 returns c =
     let p3 = c .before .before in
     let p2 = p3 .before .before in
     let p1 = p2 .before .before in
-    let a = p1 .before .before .before .before .args in
+    let a = start p1 .args in
     word-stores (a .w) (p1 .wide .result) (p2 .wide2 .result) (p3 .wide3 .result) (c .wide4 .result) (a .text .now) (a .out .now) (omega arith) (omega arith)
     (p1 .wide .ensures) (p2 .wide2 .ensures) (p3 .wide3 .ensures) (c .wide4 .ensures)
 

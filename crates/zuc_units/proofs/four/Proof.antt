@@ -6,15 +6,38 @@ use borrow.Author.Needs.{needs}
 use Rattle.zuc_units.proofs.four.Statement.{statement}
 use Rattle.zuc_units.proofs.four.Tie as tie
 
+-- ---- places
+
+abbrev after-put-arg3 : tie.After-step3 → tie.After-put-arg3
+after-put-arg3 c = c .before .before .before .before .before .before .before .before .before .before
+
+abbrev start-from-put-arg3 : tie.After-put-arg3 → tie.Start
+start-from-put-arg3 c = c .before .before .before .before .before .before .before .before .before
+
+abbrev after-out2 : tie.After-put-arg7 → tie.After-out2
+after-out2 c = c .before .before .before .before .before .before .before .before .before .before
+
+abbrev start-from-out2 : tie.After-out2 → tie.Start
+start-from-out2 c = c .before .before .before .before .before .before .before .before .before .before .before
+
+abbrev after-slice-known3 : tie.After-slice-known5 → tie.After-slice-known3
+after-slice-known3 c = c .before .before .before .before .before .before .before .before .before .before .before .before
+
+abbrev start-from-slice-known3 : tie.After-slice-known3 → tie.Start
+start-from-slice-known3 c = c .before .before .before .before .before .before .before .before .before .before .before .before
+
+abbrev after-step3 : tie.After-step4 → tie.After-step3
+after-step3 c = c .before .before .before .before .before .before
+
 sub-put-5 : tie.Need-sub-put-5
 sub-put-5 c =
-    let p = c .before .before .before .before .before .before .before .before .before .before in
-    let k = p .before .before .before .before .before .before .before .before .before .pre in search needs
+    let p = after-put-arg3 c in
+    let k = start-from-put-arg3 p .pre in search needs
 
 part-put-start-5 : tie.Need-part-put-start-5
 part-put-start-5 c =
-    let p = c .before .before .before .before .before .before .before .before .before .before in
-    let k = p .before .before .before .before .before .before .before .before .before .pre in search needs
+    let p = after-put-arg3 c in
+    let k = start-from-put-arg3 p .pre in search needs
 
 -- ---- the units, one after the other: each is put and followed by a step
 
@@ -39,25 +62,25 @@ part-put-start-6 c = sub-put-6 c
 
 put-requires-4 : tie.Need-put-requires-4
 put-requires-4 c κs =
-    let p = c .before .before .before .before .before .before .before .before .before .before in
-    let k = p .before .before .before .before .before .before .before .before .before .before .before .pre in
+    let p = after-out2 c in
+    let k = start-from-out2 p .pre in
     (omega arith, omega arith)
 
 step-requires-4 : tie.Need-step-requires-4
 step-requires-4 c κs =
-    let p = c .before .before .before .before .before .before .before .before .before .before .before .before in
-    p .before .before .before .before .before .before .before .before .before .before .before .before .pre .0
+    let p = after-slice-known3 c in
+    start-from-slice-known3 p .pre .0
 
 same-length : tie.Need-same-length
 same-length c =
-    let p = c .before .before .before .before .before .before in
+    let p = after-step3 c in
     done-length (start p .args .st) (start p .args .text .now) (start p .args .out .now) (start p .pre .1 .0) (start p .pre .1 .1) (one p .before .before .before .put .ensures) (one p .step .ensures)
     (two p .before .before .before .put2 .ensures) (two p .step2 .ensures) (p .before .before .before .put3 .ensures) (p .step3 .ensures)
     (c .before .before .before .put4 .ensures) (c .step4 .ensures)
 
 returns : tie.Need-returns
 returns c =
-    let p = c .before .before .before .before .before .before in
+    let p = after-step3 c in
     done (start p .args .st) (start p .args .text .now) (start p .args .out .now) (start p .pre .1 .0) (start p .pre .1 .1) (one p .before .before .before .put .ensures) (one p .step .ensures)
     (two p .before .before .before .put2 .ensures) (two p .step2 .ensures) (p .before .before .before .put3 .ensures) (p .step3 .ensures)
     (c .before .before .before .put4 .ensures) (c .step4 .ensures)

@@ -5,6 +5,17 @@ use borrow.Author.Needs.{needs}
 use Rattle.kcipher2.proofs.Kcipher2.clock.Statement.{statement}
 use Rattle.kcipher2.proofs.Kcipher2.clock.Tie as tie
 
+-- ---- places
+
+abbrev after-left : tie.After-moved → tie.After-left
+after-left c = c .before .before .before .before
+
+abbrev after-sub-word : tie.After-moved → tie.After-sub-word
+after-sub-word c = c .before .before .before .before .before
+
+abbrev after-right : tie.After-moved → tie.After-right
+after-right c = c .before .before .before .before .before .before
+
 returns : tie.Need-returns
 unfolding clocked
 returns c =
@@ -13,9 +24,9 @@ returns c =
       c .before .sub-word4 .ensures,
       c .before .before .sub-word3 .ensures,
       c .before .before .before .sub-word2 .ensures,
-      c .before .before .before .before .left .ensures,
-      c .before .before .before .before .before .sub-word .ensures,
-      c .before .before .before .before .before .before .right .ensures,
+      after-left c .left .ensures,
+      after-sub-word c .sub-word .ensures,
+      after-right c .right .ensures,
     )
 
 pub clock-spec : {M : Type 1} → statement M
