@@ -6,10 +6,8 @@ use borrow.Author.Needs.{needs}
 use Rattle.mugi.proofs.mixed.Statement.{statement}
 use Rattle.mugi.proofs.mixed.Tie as tie
 
--- ---- places
-
-abbrev start : tie.After-rotl24 → tie.Start
-start c = c .before .before .before .before .before .before .before
-
 pub mixed-spec : {M : Type 1} → statement M
-mixed-spec = tie.close (tie.spec (search needs) (search needs) (λ c. byte-of _) (search needs) (search needs) (λ c. byte-of _) (search needs) (search needs) (λ c. byte-of _) (search needs) (search needs) (λ c. byte-of _) (search needs) (search needs) (search needs) (λ c. let k = start c in rw (c .rotl24 .ensures, c .before .rotl8 .ensures, c .before .before .rotl16 .ensures, k .pre) (mixed-by (k .args .w))))
+mixed-spec =
+    tie.close (tie.spec (search needs) (search needs) (λ c. byte-of _) (search needs) (search needs) (λ c. byte-of _) (search needs) (search needs) (λ c. byte-of _) (search needs) (search needs) (λ c. byte-of _) (search needs) (search needs) (search needs)
+    (λ c. let p = c .before .before in let q = p .before .before in let k = q .before .before .before in
+    rw (c .rotl24 .ensures, c .before .rotl8 .ensures, p .rotl16 .ensures, k .pre) (mixed-by (k .args .w))))

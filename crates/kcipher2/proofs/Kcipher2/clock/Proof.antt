@@ -5,28 +5,19 @@ use borrow.Author.Needs.{needs}
 use Rattle.kcipher2.proofs.Kcipher2.clock.Statement.{statement}
 use Rattle.kcipher2.proofs.Kcipher2.clock.Tie as tie
 
--- ---- places
-
-abbrev after-left : tie.After-moved → tie.After-left
-after-left c = c .before .before .before .before
-
-abbrev after-sub-word : tie.After-moved → tie.After-sub-word
-after-sub-word c = c .before .before .before .before .before
-
-abbrev after-right : tie.After-moved → tie.After-right
-after-right c = c .before .before .before .before .before .before
-
 returns : tie.Need-returns
 unfolding clocked
 returns c =
+    let p = c .before .before .before in
+    let q = p .before .before .before in
     rw (
       c .moved .ensures,
       c .before .sub-word4 .ensures,
       c .before .before .sub-word3 .ensures,
-      c .before .before .before .sub-word2 .ensures,
-      after-left c .left .ensures,
-      after-sub-word c .sub-word .ensures,
-      after-right c .right .ensures,
+      p .sub-word2 .ensures,
+      p .before .left .ensures,
+      p .before .before .sub-word .ensures,
+      q .right .ensures,
     )
 
 pub clock-spec : {M : Type 1} → statement M
