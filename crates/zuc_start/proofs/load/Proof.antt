@@ -19,14 +19,6 @@ Inv-loop key iv d a₀ i₀ a i = (i ≤ 16) × (a ≡ tab i (loadedCell key iv)
 abbrev μ-loop : tie.MeasureT-loop
 μ-loop key iv d a₀ i₀ a i = 16 - i
 
--- ---- places
-
-abbrev at-loop : tie.After-cell Inv-loop μ-loop → tie.At-loop Inv-loop μ-loop
-at-loop c = c .before .before .before .before
-
-abbrev start : tie.At-loop Inv-loop μ-loop → tie.Start Inv-loop μ-loop
-start c = c .before .before .before .before
-
 -- a turn more leaves fewer to do
 nearer : {i : ℕ} → i < 16 → 16 - (i + 1) < 16 - i
 nearer h = omega arith
@@ -36,11 +28,13 @@ loop-holds c = (search needs, refl)
 
 loop-again : tie.Need-loop-again Inv-loop μ-loop
 loop-again c =
-    let p = at-loop c in
-    let a = start p .args in (
+    let p = c .before .before in
+    let q = p .before .before in
+    let r = q .before .before in
+    let a = r .before .before .args in (
       omega arith,
-      rw (c .cell .ensures, p .loop .inv .1, p .before .d .ensures)
-          (fill (p .loop .i) (loadedCell (now (a .key)) (now (a .iv))) (replicate 16 0) (search needs)),
+      rw (c .cell .ensures, q .loop .inv .1, q .before .d .ensures)
+          (fill (q .loop .i) (loadedCell (now (a .key)) (now (a .iv))) (replicate 16 0) (search needs)),
     )
 
 returns : tie.Need-returns Inv-loop μ-loop
