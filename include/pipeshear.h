@@ -5,10 +5,20 @@
  * is not detected.
  *
  * A parked call can be resumed once. A park writes its number into the image, and the card holds that number until an image with it is resumed or the same line is parked
- * again; opens, crypts and closes do not change it. So an image can be resumed on the card that parked it, on any idle line, and is refused from then on (code 14). The
+ * again; no other command changes it. So an image can be resumed on the card that parked it, on any idle line, and is refused from then on (code 14). The
  * numbers are in the card: continue with only one of a card and its copies, or an image could be resumed on each.
  *
  * A line cannot be opened with a blank key: one that is all zero in the cipher's own length, in the command or in the tray, is refused (code 16).
+ *
+ * The key of a line can be changed while its call runs, with command 07, which has 27 bytes: 07, line 1, key number 1, IV 16, position 8, the highest byte first. The line's
+ * bytes before that position use the old key; those from it on use the new key of the tray with the new IV, and the line's own cipher. A line's position is the number of
+ * bytes that it has enciphered or deciphered since it was opened or since its last change; a resumed line continues with the position that it was parked at. A change at the
+ * line's own position takes effect at once: the next byte is the first with the new key. A later one waits in the card until a crypt reaches its position, and a crypt across
+ * it does both parts in one call. At the change the line's position starts again from 0.
+ *
+ * Both ends of a call must be given the same change, each before its line passes that position; their crypts need not have the same lengths. While a change is waiting, a
+ * second change and a park of that line are refused (code 17), and a close drops it. The new key and IV are checked as in an open from the tray, for the line's cipher
+ * (codes 9, 10, 7 and 16).
  *
  * Link with target/staticlib/libpipeshear.a, which `rt staticlib pipeshear` makes for Linux on x86-64. */
 #ifndef PIPESHEAR_H
@@ -22,7 +32,7 @@ extern "C" {
 #endif
 
 /* The words of a card. */
-#define PIPESHEAR_CARD 345
+#define PIPESHEAR_CARD 665
 
 /* The bytes of a parked line's image: the cipher's number, the position in eight bytes, the park's number in four, and the state, with zeros after a shorter one. */
 #define PIPESHEAR_IMAGE 165
@@ -31,7 +41,7 @@ extern "C" {
  *
  *   card      the card, PIPESHEAR_CARD words; an accepted call changes it
  *   command   the command; bytes after it are ignored; not changed
- *   tray      the key tray, 32 bytes a key; not changed; read by command 01 only
+ *   tray      the key tray, 32 bytes a key; not changed; read by commands 01 and 07 only
  *   data      the bytes to encipher or decipher, from the first on; not changed
  *   out       where crypt and park write, from the first byte on; the bytes after those written are not changed
  *   counts    three counts: bytes used of command, bytes used of data, bytes written to out
@@ -41,17 +51,20 @@ extern "C" {
  *
  * Returns 0 for an accepted command. Any other code is a refusal: card and out are not changed, and the three counts are 0.
  *
- *     1  command empty or cut short          9  tray length not a multiple of 32, or over 8192
- *     2  first byte not 01 to 06            10  key number not in the tray
- *     3  line over 7                        11  data shorter than the count
- *     4  cipher not 1 to 6                  12  out shorter than the count, or than an image for a park
- *     5  open or resume on an open line     13  position and count over 2^36
- *     6  crypt, park or close on idle line  14  park number not held
- *     7  a key or IV byte beyond the        15  no park number left: 4,294,967,295 parks have been made
- *        cipher's length is not 0           16  key all zero
- *     8  invalid image                     255  damaged card, card_words not PIPESHEAR_CARD, or places not 3
+ *     1  command empty or cut short              10  key number not in the tray
+ *     2  first byte not 01 to 07                 11  data shorter than the count
+ *     3  line over 7                             12  out shorter than the count, or than an image for a park
+ *     4  cipher not 1 to 6                       13  position after the crypt over 2^36
+ *     5  open or resume on an open line          14  park number not held
+ *     6  crypt, park, change or close on a line  15  no park number left: 4,294,967,295 parks have been made
+ *        that is not open                        16  key all zero
+ *     7  a key or IV byte beyond the cipher's    17  change or park while a change is waiting on the line
+ *        length is not 0                         18  change position below the line's position, or above 2^36
+ *     8  invalid image                          255  damaged card, card_words not PIPESHEAR_CARD, or places not 3
+ *     9  tray length not a multiple of 32,
+ *        or over 8192
  *
- * If several apply, the first is returned, in the order 255, 1 for empty, 2, 1 for cut short, 3, 4, 5, 6, 15, 9, 10, 7, 16, 8, 14, 13, 11, 12.
+ * If several apply, the first is returned, in the order 255, 1 for empty, 2, 1 for cut short, 3, 4, 5, 6, 17, 18, 15, 9, 10, 7, 16, 8, 14, 13, 11, 12.
  * If places is not 3, counts is not changed either.
  *
  * The call has no state of its own and reads only what it is given, so threads may call it at the same time, each with its own card, out and counts. Two calls on one card

@@ -26,7 +26,7 @@ pub struct Counts {
 
 impl Card {
     /// The words of a card.
-    pub const WORDS: usize = 345;
+    pub const WORDS: usize = 665;
 
     /// A fresh card, with all lines idle and no park made.
     pub const fn new() -> Card {
@@ -55,15 +55,15 @@ impl Card {
 
     /// Runs the first command in `command`; bytes after it are ignored.
     ///
-    /// The key tray has 32 bytes for each key and is read only by an open from the tray. A crypt takes its bytes from
-    /// the start of `data`. Crypt and park write to the start of `out`; the bytes after those written are not changed.
-    /// A refused command changes neither the card nor `out`.
+    /// The key tray has 32 bytes for each key and is read only by an open from the tray and by a change of key. A crypt
+    /// takes its bytes from the start of `data`. Crypt and park write to the start of `out`; the bytes after those written
+    /// are not changed. A refused command changes neither the card nor `out`.
     ///
     /// ```
     /// use pipeshear::{command, Card, IMAGE};
     ///
     /// let refusal = Card::new().call(&command::park(4), &[], &[], &mut [0; IMAGE]).unwrap_err();
-    /// assert_eq!(refusal.to_string(), "crypt, park or close on an idle line (code 6)");
+    /// assert_eq!(refusal.to_string(), "crypt, park, change or close on a line that is not open (code 6)");
     /// ```
     pub fn call(&mut self, command: &[u8], tray: &[u8], data: &[u8], out: &mut [u8]) -> Result<Counts, Refusal> {
         let mut counts = [0; 3];
@@ -148,7 +148,7 @@ mod tests {
             match card.call(&command::crypt(4, 5), &[], &[1; 5], &mut out) {
                 Err(refusal) => assert_eq!((refusal.code(), card.words(), out), (255, &damaged, [7; 5])),
                 // Line 4 may be at byte 17 as well, and 17 parks may have been made.
-                Ok(_) => assert!([4 * 42 + 3, 8 * 42].contains(&place)),
+                Ok(_) => assert!([4 * 82 + 3, 8 * 82].contains(&place)),
             }
         }
     }
@@ -189,6 +189,54 @@ mod tests {
             other.call(&command::open_tray(7, cipher, 0, &[0; 16]), &key(length), &[], &mut []).unwrap();
             assert!(one == other && one != Card::new());
         }
+    }
+
+    /// A tray of one key for every cipher.
+    fn tray() -> [u8; command::KEY] {
+        let mut tray = [0; command::KEY];
+        tray[..16].fill(7);
+        tray
+    }
+
+    #[test]
+    fn a_change_of_key_is_that_of_a_line_opened_with_the_new_key() {
+        let mut iv = [0; command::IV];
+        iv[..8].fill(5);
+        for (cipher, length) in CIPHERS {
+            let (mut card, mut other, mut out) = (Card::new(), Card::new(), [0; 40]);
+            card.call(&command::open_own(4, cipher, &key(length), &[0; 16]), &[], &[], &mut []).unwrap();
+            let mut same = card.clone();
+            other.call(&command::open_tray(4, cipher, 0, &iv), &tray(), &[], &mut []).unwrap();
+            let (mut old, mut new) = ([0; 13], [0; 27]);
+            same.call(&command::crypt(4, 13), &[], &[1; 13], &mut old).unwrap();
+            other.call(&command::crypt(4, 27), &[], &[1; 27], &mut new).unwrap();
+            card.call(&command::change_key(4, 0, &iv, 13), &tray(), &[], &mut []).unwrap();
+            card.call(&command::crypt(4, 40), &[], &[1; 40], &mut out).unwrap();
+            assert_eq!(out[..], [&old[..], &new].concat());
+            assert_eq!(card, other);
+        }
+    }
+
+    #[test]
+    fn a_change_of_key_waits_and_refuses_another_and_a_park() {
+        let mut card = opened();
+        let change = |position: u64| command::change_key(4, 0, &[5; 16], position);
+        assert_eq!(card.call(&change((1 << 36) + 1), &tray(), &[], &mut []).unwrap_err().code(), 18);
+        card.call(&change(9), &tray(), &[], &mut []).unwrap();
+        let before = card.clone();
+        assert_eq!(card.call(&change(20), &tray(), &[], &mut []).unwrap_err().code(), 17);
+        assert_eq!(card.call(&command::park(4), &[], &[], &mut [0; IMAGE]).unwrap_err().code(), 17);
+        assert_eq!(card, before);
+        card.call(&command::crypt(4, 9), &[], &[0; 9], &mut [0; 9]).unwrap();
+        card.call(&command::park(4), &[], &[], &mut [0; IMAGE]).unwrap();
+    }
+
+    #[test]
+    fn a_close_drops_a_change_of_key() {
+        let mut card = opened();
+        card.call(&command::change_key(4, 0, &[5; 16], 9), &tray(), &[], &mut []).unwrap();
+        card.call(&command::close(4), &[], &[], &mut []).unwrap();
+        assert_eq!(card, Card::new());
     }
 
     #[test]

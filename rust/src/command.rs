@@ -28,14 +28,16 @@ pub fn open_own(line: u8, cipher: Cipher, key: &[u8; KEY], iv: &[u8; IV]) -> [u8
     bytes
 }
 
-/// Enciphers or deciphers the first `count` bytes of data and writes them to the start of out.
+/// Enciphers or deciphers the first `count` bytes of data and writes them to the start of out. A change of key may come
+/// due among them.
 pub fn crypt(line: u8, count: u16) -> [u8; 4] {
     let [high, low] = count.to_be_bytes();
     [0x03, line, high, low]
 }
 
 /// Writes an open line's image to the start of out and makes the line idle. The image contains the park's number,
-/// which the card holds in place of the number that was last parked from this line.
+/// which the card holds in place of the number that was last parked from this line. A line on which a change of key is
+/// waiting cannot be parked: the park is refused with code 17.
 pub fn park(line: u8) -> [u8; 2] {
     [0x04, line]
 }
@@ -49,9 +51,23 @@ pub fn resume(line: u8, image: &[u8; IMAGE]) -> [u8; 2 + IMAGE] {
     bytes
 }
 
-/// Makes an open line idle.
+/// Makes an open line idle. A change of key that is waiting on it is dropped.
 pub fn close(line: u8) -> [u8; 2] {
     [0x06, line]
+}
+
+/// Changes the key of an open line: from `position` on, its bytes use the keystream of key `key_number` of the tray and
+/// this IV, with the line's own cipher, from that keystream's first byte on. The line's position counts from 0 there.
+///
+/// The position is one of the line's keystream at the time of the command, in bytes: the line's own, so that the next
+/// byte is the first with the new key, up to 2^36. Below the line's own or above 2^36 it is refused with code 18. Until
+/// the change comes due, a second one and a park are refused with code 17.
+pub fn change_key(line: u8, key_number: u8, iv: &[u8; IV], position: u64) -> [u8; 11 + IV] {
+    let mut bytes = [0; 11 + IV];
+    bytes[..3].copy_from_slice(&[0x07, line, key_number]);
+    bytes[3..3 + IV].copy_from_slice(iv);
+    bytes[3 + IV..].copy_from_slice(&position.to_be_bytes());
+    bytes
 }
 
 #[cfg(test)]
@@ -73,13 +89,16 @@ mod tests {
         assert_eq!(counts(&mut card, &open_tray(7, Cipher::Mugi, 0, &[9; IV]), &mut out), (20, 0, 0));
         assert_eq!(counts(&mut card, &open_own(1, Cipher::Snow2Key32, &[8; KEY], &[9; IV]), &mut out), (51, 0, 0));
         assert_eq!(counts(&mut card, &crypt(7, 9), &mut out), (4, 9, 9));
+        assert_eq!(counts(&mut card, &change_key(7, 0, &[3; IV], 9), &mut out), (27, 0, 0));
+        assert_eq!(counts(&mut card, &change_key(1, 0, &[3; IV], 9), &mut out), (27, 0, 0));
+        assert_eq!(counts(&mut card, &crypt(1, 9), &mut out), (4, 9, 9));
         assert_eq!(counts(&mut card, &park(7), &mut out), (2, 0, IMAGE));
         assert_eq!(counts(&mut card, &resume(0, &out), &mut []), (2 + IMAGE, 0, 0));
         assert_eq!(counts(&mut card, &close(0), &mut out), (2, 0, 0));
         assert_eq!(counts(&mut card, &close(1), &mut out), (2, 0, 0));
         // All lines are idle and no number is held; one park was made.
         let mut words = *card.words();
-        assert_eq!(std::mem::take(&mut words[8 * 42]), 1);
+        assert_eq!(std::mem::take(&mut words[8 * 82]), 1);
         assert_eq!(Card::from_words(words), Card::new());
     }
 
@@ -102,5 +121,9 @@ mod tests {
         assert_eq!(crypt(6, 0x1234), [3, 6, 0x12, 0x34]);
         assert_eq!(resume(6, &[0xCC; IMAGE])[..3], [5, 6, 0xCC]);
         assert_eq!(resume(6, &[0xCC; IMAGE]).len(), 167);
+        let change = change_key(6, 255, &iv, 0x0102_0304_0506_0708);
+        assert_eq!(change[..4], [7, 6, 255, 0xBB]);
+        assert_eq!(change[18..], [0xBB, 1, 2, 3, 4, 5, 6, 7, 8]);
+        assert_eq!(change.len(), 27);
     }
 }

@@ -57,6 +57,30 @@
 //! let refusal = Card::new().call(&open, &[0; 32], &[], &mut []).unwrap_err();
 //! assert_eq!(refusal.to_string(), "key all zero (code 16)");
 //! ```
+//!
+//! The key of a line can be changed while its call runs. Both ends send the same change, with the position from which on
+//! the new key is used; their frames need not be the same:
+//!
+//! ```
+//! use pipeshear::{command, Card, Cipher};
+//!
+//! let mut tray = [7; 64];
+//! tray[32..].fill(8);
+//! let mut near_end = Card::new();
+//! near_end.call(&command::open_tray(0, Cipher::Snow2Key32, 0, &[0; 16]), &tray, &[], &mut [])?;
+//! let mut far_end = near_end.clone();
+//!
+//! let change = command::change_key(0, 1, &[9; 16], 5);
+//! near_end.call(&change, &tray, &[], &mut [])?;
+//! far_end.call(&change, &tray, &[], &mut [])?;
+//!
+//! let (mut wire, mut heard) = ([0; 13], [0; 13]);
+//! near_end.call(&command::crypt(0, 13), &[], b"hello, ward 7", &mut wire)?;
+//! far_end.call(&command::crypt(0, 3), &[], &wire, &mut heard)?;
+//! far_end.call(&command::crypt(0, 10), &[], &wire[3..], &mut heard[3..])?;
+//! assert_eq!(&heard, b"hello, ward 7");
+//! # Ok::<(), pipeshear::Refusal>(())
+//! ```
 
 #![deny(missing_docs)]
 #![deny(unsafe_code)]

@@ -17,7 +17,7 @@ impl Refusal {
         }
     }
 
-    /// The code: 1 to 16, or 255 for a damaged card.
+    /// The code: 1 to 18, or 255 for a damaged card.
     pub const fn code(self) -> u8 {
         self.0.get()
     }
@@ -35,21 +35,23 @@ impl Error for Refusal {}
 fn text(code: u8) -> &'static str {
     match code {
         1 => "command empty or cut short",
-        2 => "first byte not 01 to 06",
+        2 => "first byte not 01 to 07",
         3 => "line over 7",
         4 => "cipher not 1 to 6",
         5 => "open or resume on an open line",
-        6 => "crypt, park or close on an idle line",
+        6 => "crypt, park, change or close on a line that is not open",
         7 => "a key or IV byte beyond the cipher's length is not 0",
         8 => "an image whose cipher, position, state or padding is wrong",
         9 => "tray length not a multiple of 32, or over 8192",
         10 => "key number not in the tray",
         11 => "data shorter than the count",
         12 => "out shorter than the count, or than an image for a park",
-        13 => "position and count over 2^36",
+        13 => "position after the crypt over 2^36",
         14 => "park number not held",
         15 => "no park number left: 4,294,967,295 parks have been made",
         16 => "key all zero",
+        17 => "change or park while a change of key is waiting on the line",
+        18 => "change position below the line's position, or above 2^36",
         255 => "damaged card",
         _ => "a code that the card does not give",
     }
@@ -62,10 +64,10 @@ mod tests {
 
     #[test]
     fn every_code_has_a_text_of_its_own() {
-        let codes: Vec<u8> = (1..=16).chain([255]).collect();
+        let codes: Vec<u8> = (1..=18).chain([255]).collect();
         let texts: HashSet<&str> = codes.iter().map(|&code| text(code)).collect();
         assert_eq!(texts.len(), codes.len());
-        assert!(!texts.contains(text(17)));
+        assert!(!texts.contains(text(19)));
     }
 
     #[test]

@@ -5,10 +5,11 @@ use mathlib.Core.Path.{_≡_, sym, subst}
 use mathlib.Core.List.{List, [], _∷_}
 use Rattle.machine.specs.Machine.{Machine, Call, Seen, step, cardStep, freshMachine, freshCard}
 use Rattle.machine.specs.Logs.{Made, madeOf, callsOf}
-use Rattle.machine.specs.OneStream.{BytesIn, OneStream, Counted}
+use Rattle.machine.specs.OneStream.{BytesIn, AllBytes, OneStream}
+use Rattle.machine.specs.Counted.{Counted}
 use Rattle.machine.specs.Steps.{Steps, none as no-steps, step as one-step}
 use Rattle.machine.specs.Parking.{ParkedCalls}
-use Rattle.machine.proofs.Steps.{steps-one-stream, steps-counted, steps-parked-calls}
+use Rattle.machine.proofs.Steps.{steps-bytes, steps-one-stream, steps-counted, steps-parked-calls}
 use Rattle.card_layout.proofs.Cards.{fresh-words}
 use Rattle.card_outcome.specs.Outcomes.{outcomeOf, Code}
 use Rattle.card_outcome.specs.Leaves.{outOf, Untouched}
@@ -54,6 +55,10 @@ counted xs h = steps-counted xs (from-fresh h)
 -- In such a list an image that a park wrote is taken up until its line parks again.
 pub parked-calls : (xs : List Made) → Ran fresh xs → ParkedCalls xs
 parked-calls xs h = steps-parked-calls xs (from-fresh h)
+
+-- What the theorems on the two ends of a trunk ask of such a list beside it.
+pub run-bytes : (xs : List Made) → Ran fresh xs → AllBytes xs
+run-bytes xs h = steps-bytes (from-fresh h)
 
 module _ (c : Card) (a : Call) (r : Answer) (o : List ℕ) (h : CallPromise c a r o) where
   -- A refusal returns the card and out unchanged and three zeros, whatever card was handed in.

@@ -1,20 +1,18 @@
--- A crypt of a line's words from a place within a unit is one of the line from its position, an open line has what a crypt asks, and a crypt is decided by its rows.
+-- A crypt of a line's words from a place within a unit is one of the line from its position, and a crypt is decided by its rows.
 -- Assumes nothing.
-use mathlib.Core.Path.{_≡_, ap, ap₂, sym, subst, _∙_}
-use mathlib.Core.Bool.{true, false}
+use mathlib.Core.Path.{_≡_, refl, ap, sym, subst, _∙_}
+use mathlib.Core.Bool.{Bool, true, false}
 use mathlib.Core.List.{List, _++_}
-use Prim.Native.Nat.{ℕ, _+_, _/_, _%_, _<_}
+use Prim.Native.Nat.{ℕ, _+_, _-_, _/_, _%_, _<_}
 use native.Mathlib.Nat.{mod-lt}
-use native.Mathlib.Omega.{arith}
-use lib.Dec.{leb}
 use lib.ListN.{length, drop}
-use Rattle.words.specs.Tests.{both}
+use Rattle.words.specs.Tests.{pick}
 use Rattle.keystream.specs.Stream.{stateAt, byteAt, xorFrom}
 use Rattle.keystream.proofs.Parts.{stateAt-place, xorFrom-place}
-use Rattle.ciphers.specs.Table.{cipherAt, isCipher}
+use Rattle.ciphers.specs.Table.{cipherAt}
 use Rattle.ciphers.proofs.Sound.{sound}
-use Rattle.words.proofs.Tests.{both-left, both-right}
 use Rattle.card_sizes.specs.Sizes.{stateWords, cryptLength}
+use Rattle.card_moves.specs.Moves.{comesDue}
 use Rattle.command.specs.declared.Command.the-variants.{Crypt}
 use Rattle.command.specs.Rows.{unless}
 use Rattle.command.specs.Decode.{lengthOf}
@@ -24,36 +22,23 @@ use Rattle.machine.specs.Logs.{lineOn}
 use Rattle.card_layout.specs.Words.{cardIn}
 use Rattle.card_outcome.specs.Leaves.{callOf, publicOf}
 use Rattle.card_outcome.proofs.Laws.{view-is}
-use Rattle.machine.specs.Machine.{View, crypt, refuseIf, decided, Line, based, shown, moved, stateOf, unitAt, byteOf, enciphered, limit, openOk}
+use Rattle.machine.specs.Machine.{View, crypt, refuseIf, decided, Line, MLine, based, shown, along, renewed, moved, xored, stateOf, unitAt, byteOf}
 
 -- a crypt from a place within a unit is one from the line's position
 pub crypted-line : (l : Line) (u : ℕ) → u ≡ cipherAt (l .cipher) .gen .unit → (text out w' out' : List ℕ) →
     w' ≡ stateAt (cipherAt (l .cipher) .gen) (l .words) 0 ((l .n % u + length text) / cipherAt (l .cipher) .gen .unit) →
     out' ≡ xorFrom (byteAt (cipherAt (l .cipher) .gen) (l .words) 0) (l .n % u) text ++ drop (length text) out →
-    (_≡_ {A = Line} (record { mode = l .mode; cipher = l .cipher; n = l .n + length text; words = w' }) (shown (moved (based l) (length text))))
-    × (out' ≡ enciphered (based l) text ++ drop (length text) out)
-unfolding shown moved based stateOf unitAt enciphered byteOf
+    (_≡_ {A = Line} (record { mode = l .mode; cipher = l .cipher; n = l .n + length text; words = w'; due = l .due; waiting = l .waiting }) (shown (along (based l) (length text))))
+    × (out' ≡ xored (based l) text ++ drop (length text) out)
+unfolding shown along based stateOf unitAt xored byteOf
 crypted-line l u eu text out w' out' e f =
     let g = cipherAt (l .cipher) .gen in
     let s = ap (λ (x : ℕ). stateAt g (l .words) 0 ((l .n % x + length text) / g .unit)) eu in
     let b = ap (λ (x : ℕ). xorFrom (byteAt g (l .words) 0) (l .n % x) text) eu in (
-      ap (λ (x : List ℕ). record { mode = l .mode; cipher = l .cipher; n = l .n + length text; words = x })
+      ap (λ (x : List ℕ). record { mode = l .mode; cipher = l .cipher; n = l .n + length text; words = x; due = l .due; waiting = l .waiting })
           (e ∙ s ∙ sym (stateAt-place g (sound (l .cipher) .unit-pos) (l .words) (l .n) (length text))),
       f ∙ ap (λ (x : List ℕ). x ++ drop (length text) out) (b ∙ sym (xorFrom-place g (sound (l .cipher) .unit-pos) (l .words) (l .n) text)),
     )
-
--- what a crypt asks of an open line
-pub open-admits : (l : Line) → openOk l ≡ true → cipherAt (l .cipher) .admits (l .words) ≡ true
-unfolding openOk
-open-admits l h =
-    let a = cipherAt (l .cipher) .admits (l .words) in
-    both-right (leb (l .n) limit) a (both-right (isCipher (l .cipher)) (both (leb (l .n) limit) a) h)
-
-pub never : (l : Line) → openOk l ≡ true → isCipher (l .cipher) ≡ false → ⊥
-unfolding openOk
-never l h e =
-    let t : true ≡ false = sym (both-left (isCipher (l .cipher)) (both (leb (l .n) limit) (cipherAt (l .cipher) .admits (l .words))) h) ∙ e in
-    let z : _≡_ {A = ℕ} 0 1 = cc in omega arith
 
 pub unit-up : (c u : ℕ) → u ≡ cipherAt c .gen .unit → 0 < u
 unit-up c u e = subst (λ (x : ℕ). 0 < x) (sym e) (sound c .unit-pos)
@@ -63,14 +48,18 @@ place-within c n u e = subst (λ (x : ℕ). n % x < cipherAt c .gen .unit) (sym 
 
 -- a line that moved on is one that words can hold where its state is whole
 pub moved-plain : (l : Line) (k : ℕ) → Plain l → length (shown (moved (based l) k) .words) ≡ stateWords → Plain (shown (moved (based l) k))
-unfolding shown moved based
-moved-plain l k p f = record { mode = p .mode; cipher = p .cipher; full = f }
+unfolding shown moved based along renewed
+moved-plain l k p f = go (comesDue (l .n) (l .due) k) f
+  where
+    go : (b : Bool) → length (shown (pick b (along (renewed (based l) (l .waiting)) (l .n + k - l .due)) (along (based l) k)) .words) ≡ stateWords →
+        Plain (shown (pick b (along (renewed (based l) (l .waiting)) (l .n + k - l .due)) (along (based l) k)))
+    go true f = record { mode = p .mode; cipher = p .cipher; full = f; waits-full = refl }
+    go false f = record { mode = p .mode; cipher = p .cipher; full = f; waits-full = p .waits-full }
 
 -- ---- the rows of a crypt, by what is read of its line
 
-pub crypt-decided : (ws : List ℕ) (i n : ℕ) (command tray text out : List ℕ) {m p : ℕ} → m ≡ lineOn (cardIn ws) i .mode → p ≡ lineOn (cardIn ws) i .n →
-    decided (Crypt i n) (publicOf ws) (callOf command tray text out) ≡ unless refuseIf (cryptRows m p n (length text) (length out)) (crypt i n cryptLength)
+pub crypt-decided : (ws : List ℕ) (i n : ℕ) (command tray text out : List ℕ) → let l = lineOn (cardIn ws) i in
+    decided (Crypt i n) (publicOf ws) (callOf command tray text out) ≡ unless refuseIf (cryptRows (l .mode) (l .n) (l .due) n (length text) (length out)) (crypt i n cryptLength)
 unfolding decided refuseIf lengthOf
-crypt-decided ws i n command tray text out hm hp =
-    ap (λ (v : View). unless refuseIf (cryptRows (v .mode) (v .pos) n (length text) (length out)) (crypt i n cryptLength)) (view-is ws i)
-    ∙ ap₂ (λ (m p : ℕ). unless refuseIf (cryptRows m p n (length text) (length out)) (crypt i n cryptLength)) (sym hm) (sym hp)
+crypt-decided ws i n command tray text out =
+    ap (λ (v : View). unless refuseIf (cryptRows (v .mode) (v .pos) (v .due) n (length text) (length out)) (crypt i n cryptLength)) (view-is ws i)

@@ -1,1 +1,2 @@
 mod Crypts
+mod Past

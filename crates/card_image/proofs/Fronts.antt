@@ -7,7 +7,7 @@ use native.Mathlib.Nat.{le-of-suc-le-suc, not-suc-le-zero}
 use native.Mathlib.Numerals.{add-one}
 use native.Mathlib.Omega.{arith}
 use borrow.Rule.Slice.PartMut.{putMid}
-use lib.ListN.{length, getD, take, drop, set, length-append, length-drop}
+use lib.ListN.{length, getD, take, drop, set, length-append}
 use lib.Seq.{take-all, sets-eq}
 use Rattle.words.specs.Strings.{bytesOf}
 use Rattle.buffer.proofs.Fronts.{Front, front-byte, front-more}
@@ -16,6 +16,7 @@ use Rattle.machine.specs.Fields.{spelt}
 use Rattle.machine.specs.Machine.{imageOf}
 use Rattle.machine.proofs.Fields.{image-spelt}
 use Rattle.card_line.specs.Words.{lineIn, lineWords, LineHeld}
+use Rattle.card_line.proofs.Lines.{state-slice}
 
 -- ---- words
 
@@ -78,15 +79,14 @@ module _ (ws : List ℕ) (held : LineHeld ws) (before : List ℕ) (fits : imageL
   unfolding lineWords
   place = ap (λ (x : List ℕ). take 2 (drop 2 x)) (sym (held .words))
 
-  state : drop 4 ws ≡ lineIn ws .words
-  unfolding lineWords
-  state = ap (drop 4) (sym (held .words))
+  state : take 38 (drop 4 ws) ≡ lineIn ws .words
+  state = state-slice ws (held .size)
 
   pub place-length : length (take 2 (drop 2 ws)) ≡ 2
   place-length = ap length place
 
-  pub state-length : length (drop 4 ws) ≡ 38
-  state-length = length-drop 4 ws ∙ (let e : length ws - 4 ≡ 38 = omega (arith, held .size) in e)
+  pub state-length : length (take 38 (drop 4 ws)) ≡ 38
+  state-length = ap length state ∙ full ws
 
   pub front-1 : (c : ℕ) → Front (c ∷ []) before (set before 0 c) 1
   front-1 c = front-byte c before (omega arith)
@@ -104,14 +104,14 @@ module _ (ws : List ℕ) (held : LineHeld ws) (before : List ℕ) (fits : imageL
       Front (p ++ bytesOf k) before (putMid 9 (length out - 9) out ys) 13
   front-number k ys f e = front-word k ys (omega arith) f e
 
-  pub front-state : {p out : List ℕ} (ys : List ℕ) → Front p before out 13 → ys ≡ spelt (drop 4 ws) ++ drop (4 * length (drop 4 ws)) (take (length out - 13) (drop 13 out)) →
-      Front (p ++ spelt (drop 4 ws)) before (putMid 13 (length out - 13) out ys) imageLength
+  pub front-state : {p out : List ℕ} (ys : List ℕ) → Front p before out 13 → ys ≡ spelt (take 38 (drop 4 ws)) ++ drop (4 * length (take 38 (drop 4 ws))) (take (length out - 13) (drop 13 out)) →
+      Front (p ++ spelt (take 38 (drop 4 ws))) before (putMid 13 (length out - 13) out ys) imageLength
   front-state {p} {out} ys f q =
       let rest : List ℕ = take (length out - 13) (drop 13 out) in
-      front-more (spelt (drop 4 ws)) ys 152 (spelt-length (drop 4 ws) ∙ ap (λ (k : ℕ). 4 * k) state-length) (omega arith) f
-      (q ∙ ap (λ (k : ℕ). spelt (drop 4 ws) ++ drop (4 * k) rest) state-length)
+      front-more (spelt (take 38 (drop 4 ws))) ys 152 (spelt-length (take 38 (drop 4 ws)) ∙ ap (λ (k : ℕ). 4 * k) state-length) (omega arith) f
+      (q ∙ ap (λ (k : ℕ). spelt (take 38 (drop 4 ws)) ++ drop (4 * k) rest) state-length)
 
-  pub parts-image : (c k : ℕ) → c ≡ lineIn ws .cipher → (((c ∷ []) ++ spelt (take 2 (drop 2 ws))) ++ bytesOf k) ++ spelt (drop 4 ws) ≡ imageOf k (lineIn ws)
+  pub parts-image : (c k : ℕ) → c ≡ lineIn ws .cipher → (((c ∷ []) ++ spelt (take 2 (drop 2 ws))) ++ bytesOf k) ++ spelt (take 38 (drop 4 ws)) ≡ imageOf k (lineIn ws)
   parts-image c k e =
       ap₂ (λ (x y : List ℕ). (((c ∷ []) ++ spelt x) ++ bytesOf k) ++ spelt y) place state
       ∙ joined c (lineIn ws .n / 2 ^ 32) (lineIn ws .n % 2 ^ 32) k (lineIn ws .words)

@@ -10,6 +10,7 @@ ghost use Rattle.card_sizes.specs.Sizes.{imageLength};
 ghost use Rattle.machine.specs.Fields.{spelt};
 ghost use Rattle.machine.specs.Machine.{imageOf};
 ghost use Rattle.card_line.specs.Words.{lineIn, LineHeld};
+use card_sizes::DUE;
 use card_sizes::HEAD;
 use card_sizes::IMAGE_NUMBER;
 use card_sizes::IMAGE_STATE;
@@ -52,5 +53,5 @@ pub fn put(line: &[u32], number: u32, out: &mut [u8])
     out[0] = cipher;
     put_words(&line[2..HEAD], &mut out[1..]);
     put_word(number, &mut out[IMAGE_NUMBER..]);
-    put_words(&line[HEAD..], &mut out[IMAGE_STATE..]);
+    put_words(&line[HEAD..DUE], &mut out[IMAGE_STATE..]);
 }

@@ -1,4 +1,4 @@
--- What refuses a key and an IV, which key is handed out, and what an open with them comes to.
+-- What refuses a key and an IV, which key is handed out, and what an open and a change with them come to.
 -- Assumes nothing.
 use mathlib.Core.Path.{_≡_}
 use mathlib.Core.Bool.{Bool, false}
@@ -8,7 +8,7 @@ use lib.ListN.{take, drop}
 use Rattle.words.specs.Tests.{pick}
 use Rattle.card_sizes.specs.Sizes.{keyLength}
 use Rattle.ciphers.specs.Table.{cipherAt, allZero}
-use Rattle.machine.specs.Machine.{Effect, refuseIf, put, opened, spareUsed, blankKey}
+use Rattle.machine.specs.Machine.{Effect, refuseIf, put, change, opened, keyFor, ivFor, streamOf, spareUsed, blankKey}
 
 -- the bytes of a key: those from byte at on of the command that brings its own, or of the tray
 abbrev pub keyBytes : Bool → ℕ → (tray command : List ℕ) → List ℕ
@@ -25,8 +25,14 @@ pub record Handed (c : ℕ) (key iv part : List ℕ) : Type 0 where
   pub none : (keyCode c key iv ≡ 0 → ⊥) → part ≡ []
   pub only : part ≡ [] → keyCode c key iv ≡ 0 → ⊥
 
+-- an effect that the number of a key and an IV may refuse
+abbrev pub keyedWith : ℕ → (key iv : List ℕ) → Effect → Effect
+keyedWith c key iv e = refuseIf (spareUsed c key iv) 7 (refuseIf (blankKey c key) 16 e)
+
 -- an open of line i with the fields of a key and an IV, once the line and the tray are judged
 abbrev pub openWith : (i size c : ℕ) → (key iv : List ℕ) → Effect
-openWith i size c key iv =
-    refuseIf (spareUsed c key iv) 7
-    (refuseIf (blankKey c key) 16 (put i (opened c (take (cipherAt c .key) key) (take (cipherAt c .iv) iv)) size))
+openWith i size c key iv = keyedWith c key iv (put i (opened c (keyFor c key) (ivFor c iv)) size)
+
+-- a change of line i at position p with them
+abbrev pub changeWith : (i p size c : ℕ) → (key iv : List ℕ) → Effect
+changeWith i p size c key iv = keyedWith c key iv (change i p (streamOf c key iv) size)

@@ -50,6 +50,23 @@ pub fn key_code(cipher: Cipher, key: &[u8], iv: &[u8]) -> u8
     0
 }
 
+// The number that refuses the key of a command and an IV, or 0.
+pub fn key_number<'a>(
+    tray: &'a [u8],
+    command: &'a [u8],
+    own: bool,
+    at: usize,
+    cipher: Cipher,
+    iv: &[u8],
+) -> u8
+    requires { ⌜ at + keyLength ≤ length (pick own (now command) (now tray)) ⌝ }
+    requires { ⌜ length (now iv) ≡ ivLength ⌝ }
+    ensures { λ r. ⌜ r ≡ keyCode (numberOf cipher) (keyBytes own at (now (tray .entry)) (now (command .entry))) (now (iv .entry)) ⌝ }
+{
+    let field = key_field(tray, command, own, at);
+    key_code(cipher, field, iv)
+}
+
 // The key of a command in the cipher's own length, which is not all zero; nothing exactly where its number is not 0.
 pub fn key_part<'a>(
     tray: &'a [u8],

@@ -8,7 +8,7 @@ use lib.ListN.{length, length-map, length-append}
 use lib.Seq.{drop-at, take-at}
 use Rattle.card_sizes.specs.Sizes.{stateWords, lineSize, lineCount, cardSize}
 use Rattle.machine.specs.Machine.{Line, MLine, Machine, shown, unitAt, seen}
-use Rattle.machine.proofs.Lines.{Good, good-idle, good-open, good-ok, shown-idle, state-fit}
+use Rattle.machine.proofs.Lines.{none-waits, one-waits, Good, good-idle, good-open, good-ok, shown-idle, state-fit}
 use Rattle.machine.proofs.Simulation.{AllGood, none-good, more-good}
 use Rattle.card_line.specs.Words.{lineIn, lineWords}
 use Rattle.card_layout.specs.Words.{linesIn, linesWords, parksIn, parksWords, cardIn, cardWords}
@@ -22,7 +22,7 @@ data AllPlain : List Line → Type 0 where
 lines-read : (ls : List Line) (rest : List ℕ) → AllPlain ls → linesIn (length ls) (linesWords ls ++ rest) ≡ ls
 lines-read [] rest no-plain = refl
 lines-read (l ∷ ls) rest (more-plain s h) =
-    let n = line-length l (s .full) in
+    let n = line-length l (s .full) (s .waits-full) in
     let more = linesWords ls ++ rest in
     ap (linesIn (suc (length ls))) (append-assoc (lineWords l) (linesWords ls) rest)
     ∙ lines-first (length ls) (lineWords l ++ more)
@@ -32,7 +32,7 @@ lines-read (l ∷ ls) rest (more-plain s h) =
 lines-length : (ls : List Line) → AllPlain ls → length (linesWords ls) ≡ lineSize * length ls
 lines-length [] no-plain = refl
 lines-length (l ∷ ls) (more-plain s h) =
-    let a = line-length l (s .full) in
+    let a = line-length l (s .full) (s .waits-full) in
     let b = lines-length ls h in
     let c = length-append (lineWords l) (linesWords ls) in
     omega arith
@@ -40,10 +40,16 @@ lines-length (l ∷ ls) (more-plain s h) =
 full-of : (l : MLine) → Good l → length (shown l .words) ≡ stateWords
 unfolding shown
 full-of l good-idle = ap (λ (x : Line). length (x .words)) shown-idle
-full-of l (good-open m c p b f) = state-fit l (unitAt l) f .full
+full-of l (good-open m c p b f w) = state-fit l (unitAt l) f .full
+
+waits-full-of : (l : MLine) → Good l → length (shown l .waiting) ≡ stateWords
+unfolding shown
+waits-full-of l good-idle = refl
+waits-full-of l (good-open m c p b f (none-waits d e)) = ap length e
+waits-full-of l (good-open m c p b f (one-waits a u v)) = v .full
 
 good-plain : (l : MLine) → Good l → Plain (shown l)
-good-plain l g = let s = small (shown l) (good-ok l g) in record { mode = s .0; cipher = s .1; full = full-of l g }
+good-plain l g = let s = small (shown l) (good-ok l g) in record { mode = s .0; cipher = s .1; full = full-of l g; waits-full = waits-full-of l g }
 
 all-plain : {ls : List MLine} → AllGood ls → AllPlain (map shown ls)
 all-plain none-good = no-plain

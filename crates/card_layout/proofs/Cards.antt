@@ -121,7 +121,7 @@ lines-set : (k i : ℕ) (ws : List ℕ) (l : Line) → i < k → lineSize * k �
 unfolding putLine
 lines-set zero i ws l q n p = absurd (not-suc-le-zero q)
 lines-set (suc k) zero ws l q n p =
-    let m = line-length l (p .full) in
+    let m = line-length l (p .full) (p .waits-full) in
     lines-first k (lineWords l ++ drop lineSize ws)
     ∙ ap₂ (λ (x y : List ℕ). lineIn x ∷ linesIn k y) (take-at (lineWords l) (drop lineSize ws) lineSize m) (drop-at (lineWords l) (drop lineSize ws) lineSize m)
     ∙ ap (λ (x : Line). x ∷ linesIn k (drop lineSize ws)) (line-read l p)
@@ -157,7 +157,7 @@ behind ws n = sym (drop-cons (drop (lineSize * lineCount) ws) 0 0 (omega (arith,
 pub put-seen : (ws : List ℕ) (i : ℕ) (l : Line) → i < lineCount → length ws ≡ cardSize → Plain l → cardIn (putLine ws i l) ≡ withLineSeen (cardIn ws) i l
 unfolding cardIn
 put-seen ws i l q n p =
-    let e = rest-same lineCount i ws l q (omega arith) (line-length l (p .full)) in
+    let e = rest-same lineCount i ws l q (omega arith) (line-length l (p .full) (p .waits-full)) in
     let f = lines-set lineCount i ws l q (omega arith) p in
     λ j. record { lines = f j; parks = parksIn (e j) }
 

@@ -74,7 +74,7 @@ module _ (ws : List ℕ) (s : Sound ws) (i : ℕ) (q : i < lineCount) (l : Line)
   within = omega (arith, s .size)
 
   full : length (lineWords l) ≡ lineSize
-  full = line-length l (p .full)
+  full = line-length l (p .full) (p .waits-full)
 
   -- A line that is well formed, put into a card that is as a call leaves it, leaves such a card.
   pub put-sound : lineOk l ≡ true → Sound (putLine ws i l)

@@ -6,13 +6,14 @@ ghost use Prim.Native.Nat.{ℕ, _+_, _<_, _≤_};
 ghost use lib.ListN.{length, take, drop};
 ghost use Rattle.words.specs.Tests.{pick};
 ghost use Rattle.card_sizes.specs.Sizes.{lineCount, keyLength, ivLength, trayLength, ownLength};
+ghost use Rattle.ciphers.specs.Table.{cipherAt};
 ghost use Rattle.command.specs.Decode.{numberOf};
+ghost use Rattle.machine.specs.Machine.{ivFor};
 ghost use Rattle.command.specs.declared.Command.the-variants.{Tray, Own};
 ghost use Rattle.card_layout.specs.Words.{Sound};
 ghost use Rattle.card_keys.specs.Keys.{keyBytes, openWith};
 ghost use Rattle.card_outcome.specs.Leaves.{callOf, EffectLeaves, CommandLeaves};
-use card_keys::key_code;
-use card_keys::key_field;
+use card_keys::key_number;
 use card_keys::key_part;
 use card_outcome::Outcome;
 use card_outcome::accepted;
@@ -22,11 +23,22 @@ use card_sizes::KEY;
 use card_sizes::OWN;
 use card_sizes::OWN_IV;
 use card_sizes::OWN_KEY;
+use card_sizes::STATE;
 use card_sizes::TRAY;
 use card_sizes::TRAY_IV;
 use ciphers::iv_of;
 use ciphers::number_of;
 use command::Cipher;
+
+// S(0) of a key in the cipher's own length and of the bytes of an IV that the cipher takes.
+pub fn first_state(cipher: Cipher, key: &[u8], iv: &[u8]) -> [u32; STATE]
+    requires { ⌜ length (now key) ≡ cipherAt (numberOf cipher) .key ⌝ }
+    requires { ⌜ length (now iv) ≡ ivLength ⌝ }
+    ensures { λ r. ⌜ r ≡ cipherAt (numberOf cipher) .init (now (key .entry)) (ivFor (numberOf cipher) (now (iv .entry))) ⌝ }
+{
+    let v = iv_of(cipher);
+    dispatch::open(cipher, key, &iv[..v])
+}
 
 // Line i is opened with the key that is handed out and an IV, or refused with the key's number where none is.
 fn open_line<'a>(
@@ -49,13 +61,11 @@ fn open_line<'a>(
 {
     let key = key_part(tray, command, own, at, cipher, iv);
     if key.len() == 0 {
-        let field = key_field(tray, command, own, at);
-        let code = key_code(cipher, field, iv);
+        let code = key_number(tray, command, own, at, cipher, iv);
         return refused(code);
     }
-    let v = iv_of(cipher);
     let number = number_of(cipher);
-    let state = dispatch::open(cipher, key, &iv[..v]);
+    let state = first_state(cipher, key, iv);
     card_layout::put_line(number, 0, &state, card, i);
     accepted(used, 0, 0)
 }
@@ -75,7 +85,10 @@ pub fn run_tray<'a>(
         (callOf (now (command .entry)) (now (tray .entry)) text out) r (now (card .exit)) out) ⌝ }
 {
     let mode = card_layout::mode_at(card, i);
-    let code = tray_code(mode, tray.len(), number);
+    if mode != 0 {
+        return refused(5);
+    }
+    let code = tray_code(tray.len(), number);
     if code != 0 {
         return refused(code);
     }

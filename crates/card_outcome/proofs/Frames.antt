@@ -2,7 +2,7 @@
 -- wrote is what the card's step writes.
 -- Assumes nothing.
 use mathlib.Core.Path.{_≡_, refl, ap, sym, _∙_}
-use mathlib.Core.List.{List, [], _∷_, _++_}
+use mathlib.Core.List.{List}
 use Prim.Native.Nat.{ℕ}
 use lib.ListN.{length, take, drop}
 use lib.Seq.{take-at}
@@ -11,7 +11,7 @@ use Rattle.command.specs.declared.Decoded.the-variants.{Run}
 use Rattle.command.specs.Decode.{decodeOf}
 use Rattle.machine.specs.Machine.{Seen, Call, cardStep, freshCard}
 use Rattle.machine.specs.Logs.{Made, cardAfter, lineOn, did, did-park, did-resume}
-use Rattle.machine.specs.OneStream.{Stands, OneStream}
+use Rattle.machine.specs.OneStream.{AllBytes, Stands, OneStream}
 use Rattle.machine.proofs.Frames.{Frame, frames-back}
 use Rattle.machine.proofs.Trunk.{taken-up}
 use Rattle.card_layout.specs.Words.{cardIn}
@@ -37,8 +37,8 @@ module _ (ws vs : List ℕ) (a b : Call) {r q : Outcome} {ws' vs' o p : List ℕ
   calls-back e t = written-is vs b far ∙ frames-back (cardIn ws) (cardIn vs) a b i j n (framed ws a near c) (framed vs b far d) e (t ∙ written-is ws a near)
 
   -- The far end stood where the near end stands (after the list before), was parked from line k and taken up on line j: its crypt gives the near end's data back as well.
-  pub resumed-back : (before sofar : List Made) (x : Made) {park : Made} → OneStream before → OneStream (sofar ++ (x ∷ [])) → Stands before park sofar → (k : ℕ) (image : List ℕ) →
+  pub resumed-back : (xs : List Made) → OneStream xs → AllBytes xs → {before sofar : List Made} {x park : Made} → Stands sofar x xs → Stands before park sofar → (k : ℕ) (image : List ℕ) →
       did park ≡ did-park k image → did x ≡ did-resume j image → cardIn vs ≡ x .card → lineOn (cardAfter freshCard before) k ≡ lineOn (cardIn ws) i →
       take n (b .text) ≡ take (r .written) o → take (q .written) p ≡ take n (a .text)
-  resumed-back before sofar x s t l k image dp dx e m =
-      calls-back (ap (λ (y : Seen). lineOn y j) e ∙ taken-up before sofar x s t l k j image dp dx ∙ m)
+  resumed-back xs u v s t k image dp dx e m =
+      calls-back (ap (λ (y : Seen). lineOn y j) e ∙ taken-up xs u v s t k j image dp dx ∙ m)

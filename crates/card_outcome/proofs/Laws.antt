@@ -8,19 +8,19 @@ use Prim.Native.Nat.{ℕ, zero, suc, _+_, _<_, _≤_}
 use native.Mathlib.Nat.{le-of-suc-le-suc, not-suc-le-zero}
 use native.Mathlib.Decide.{decLt}
 use native.Mathlib.Omega.{arith}
-use lib.Dec.{ltb, leb, eqb}
+use lib.Dec.{leb, eqb}
 use lib.ListN.{length, getD, take, drop}
 use lib.Seq.{length-take-le}
-use borrow.Author.Tests.{lt-ltb, le-ltb, ne-eqb}
+use borrow.Author.Tests.{ne-eqb}
 use Rattle.words.specs.Tests.{both, pick}
-use Rattle.keystream.proofs.Laws.{xorFrom-length}
 use Rattle.words.proofs.Tests.{both-left, both-right}
 use Rattle.card_sizes.specs.Sizes.{lineCount, imageLength}
 use Rattle.command.specs.Rows.{Row, unless, codeOf}
 use Rattle.command.proofs.Rows.{AllPassed, code-yes, code-no}
-use Rattle.machine.specs.Machine.{Line, MLine, View, Seen, noView, Effect, refuse, put, crypt, park, resume, refuseIf, idle, idleLine, based, shown, moved, byteOf, enciphered, viewOf, viewAt, isIdle, isOpen, limit, lineOk, openOk, idleOk, allOk, imageOf, back, seen, withLine, withLineSeen, withParksSeen}
+use Rattle.machine.specs.Machine.{Line, MLine, View, Seen, noView, Effect, refuse, put, crypt, park, resume, change, refuseIf, idle, idleLine, based, shown, moved, enciphered, changed, viewOf, viewAt, isIdle, isOpen, lineOk, openOk, idleOk, allOk, imageOf, back, seen, withLine, withLineSeen, withParksSeen}
 use Rattle.machine.specs.Parks.{Parks, lastPark, noMore, numberNow, parked, holds, taken, parksOk}
 use Rattle.machine.specs.Logs.{lineOn}
+use Rattle.machine.proofs.Moves.{enciphered-length}
 use Rattle.machine.proofs.Lines.{shown-based, shown-idle}
 use Rattle.machine.proofs.Seen.{seen-back, seen-with}
 use Rattle.card_layout.specs.Words.{wordsAt, cardIn, cardWords, putLine, putParks, Sound}
@@ -58,13 +58,17 @@ open-ok-of l a m = sym (ap (λ (x : ℕ). pick (eqb x 0) (idleOk l) (both (eqb x
 
 -- ---- what the rows ask of the line that a command names
 
+-- what is public of a line that is seen
+abbrev pub viewIn : Line → View
+viewIn l = record { mode = l .mode; cipher = l .cipher; pos = l .n; due = l .due }
+
 module _ (ws : List ℕ) (i : ℕ) where
-  pub view-is : viewAt (publicOf ws) i ≡ record { mode = lineOn (cardIn ws) i .mode; cipher = lineOn (cardIn ws) i .cipher; pos = lineOn (cardIn ws) i .n }
+  pub view-is : viewAt (publicOf ws) i ≡ viewIn (lineOn (cardIn ws) i)
   unfolding publicOf viewOf based
   view-is = go (cardIn ws .lines) i
     where
       go : (ls : List Line) (i : ℕ) →
-          getD (map viewOf (map based ls)) i noView ≡ record { mode = getD ls i idleLine .mode; cipher = getD ls i idleLine .cipher; pos = getD ls i idleLine .n }
+          getD (map viewOf (map based ls)) i noView ≡ viewIn (getD ls i idleLine)
       go [] i = refl
       go (l ∷ ls) zero = refl
       go (l ∷ ls) (suc i) = go ls i
@@ -74,12 +78,6 @@ module _ (ws : List ℕ) (i : ℕ) where
 
   pub busy-is : {m : ℕ} → m ≡ lineOn (cardIn ws) i .mode → (b : Bool) → eqb m 0 ≡ b → not (isIdle (publicOf ws) i) ≡ not b
   busy-is e b h = ap not (ap (λ (v : View). eqb (v .mode) 0) view-is ∙ ap (λ (x : ℕ). eqb x 0) (sym e) ∙ h)
-
-  pub over-yes : {n : ℕ} → n ≡ lineOn (cardIn ws) i .n → (k : ℕ) → limit < n + k → ltb limit (viewAt (publicOf ws) i .pos + k) ≡ true
-  over-yes {n} e k h = ap (λ (v : View). ltb limit (v .pos + k)) view-is ∙ ap (λ (x : ℕ). ltb limit (x + k)) (sym e) ∙ lt-ltb limit (n + k) h
-
-  pub over-no : {n : ℕ} → n ≡ lineOn (cardIn ws) i .n → (k : ℕ) → n + k ≤ limit → ltb limit (viewAt (publicOf ws) i .pos + k) ≡ false
-  over-no {n} e k h = ap (λ (v : View). ltb limit (v .pos + k)) view-is ∙ ap (λ (x : ℕ). ltb limit (x + k)) (sym e) ∙ le-ltb limit (n + k) h
 
 -- what the rows ask of the parks
 
@@ -158,12 +156,12 @@ module _ (ws text out : List ℕ) where
 
     pub given-crypt : (n size : ℕ) → n ≤ length text → (l : Line) → l ≡ shown (moved (based (lineOn (cardIn ws) i)) n) → Plain l → {ws' : List ℕ} → ws' ≡ putLine ws i l →
         {o : List ℕ} → o ≡ enciphered (based (lineOn (cardIn ws) i)) (take n text) ++ drop n out → {r : Outcome} → r ≡ acceptance size n n → EffectLeaves ws text out (crypt i n size) r ws' o
-    unfolding outcomeOf outOf wordsOf enciphered
+    unfolding outcomeOf outOf wordsOf
     given-crypt n size f l e p h g k =
         let m = getD (map based (cardIn ws .lines)) i idle in
         let b : based (lineOn (cardIn ws) i) ≡ m = sym base-is in
         let w : enciphered (based (lineOn (cardIn ws) i)) (take n text) ≡ enciphered m (take n text) = ap (λ (x : MLine). enciphered x (take n text)) b in
-        let lw : n ≡ length (enciphered m (take n text)) = sym (xorFrom-length (byteOf m) (m .pos) (take n text) ∙ length-take-le n text f) in
+        let lw : n ≡ length (enciphered m (take n text)) = sym (enciphered-length m (take n text) ∙ length-take-le n text f) in
         let e' = e ∙ ap (λ (x : MLine). shown (moved x n)) b in
         record {
           outcome-is = k ∙ ap (acceptance size n) lw;
@@ -171,6 +169,14 @@ module _ (ws text out : List ℕ) where
           words-are = placed-words (moved m n) l e' h;
           out-is = g ∙ ap₂ (λ (x : List ℕ) (j : ℕ). x ++ drop j out) w lw;
         }
+
+    pub given-change : (p : ℕ) (s' : List ℕ) (size : ℕ) (l : Line) → l ≡ shown (changed (based (lineOn (cardIn ws) i)) p s') → Plain l → {ws' : List ℕ} → ws' ≡ putLine ws i l →
+        {r : Outcome} → r ≡ acceptance size 0 0 → EffectLeaves ws text out (change i p s' size) r ws' out
+    unfolding outcomeOf outOf wordsOf
+    given-change p s' size l e f h k =
+        let m = getD (map based (cardIn ws .lines)) i idle in
+        let e' = e ∙ ap (λ (x : MLine). shown (changed x p s')) (sym base-is) in
+        record { outcome-is = k; card-is = placed-seen (changed m p s') l e' f h; words-are = placed-words (changed m p s') l e' h; out-is = refl }
 
     -- and then its parks
     module _ (m : MLine) (l : Line) (e : l ≡ shown m) (p : Plain l) (ok : lineOk l ≡ true) (f : Parks → Parks) where

@@ -11,6 +11,7 @@ ghost use Rattle.card_outcome.specs.Leaves.{callOf, CommandLeaves};
 use card_outcome::Outcome;
 use card_outcome::accepted;
 use card_outcome::refused;
+use card_rows::park_code;
 use card_sizes::CLOSE;
 use card_sizes::IMAGE;
 use card_sizes::LINE;
@@ -28,8 +29,10 @@ pub fn run_park(card: &mut [u32], i: u8, out: &mut [u8]) -> Outcome
         (callOf command tray text (now (out .entry))) r (now (card .exit)) (now (out .exit))) ⌝ }
 {
     let mode = card_layout::mode_at(card, i);
-    if mode != 1 {
-        return refused(6);
+    let due = card_layout::due_at(card, i);
+    let code = park_code(mode, due);
+    if code != 0 {
+        return refused(code);
     }
     let count = card_parks::park_count(card);
     if count >= LAST_PARK {

@@ -1,10 +1,11 @@
-// What each command does to a card, on the card's borrowed words: the opens, crypt, park, resume and close.
+// What each command does to a card, on the card's borrowed words: the opens, crypt, park, resume, close and change.
 // The caller must ensure that the card is as a call leaves it, and that the command is read.
 ghost use mathlib.Core.Path.{_≡_};
 ghost use Rattle.command.specs.Decode.{decodeOf};
 ghost use Rattle.command.specs.declared.Decoded.the-variants.{Run};
 ghost use Rattle.card_layout.specs.Words.{Sound};
 ghost use Rattle.card_outcome.specs.Leaves.{callOf, CommandLeaves};
+use card_change::run_change;
 use card_crypt::run_crypt;
 use card_open::run_own;
 use card_open::run_tray;
@@ -35,5 +36,10 @@ pub fn perform<'a>(
         Command::Park { line } => run_park(card, line, out),
         Command::Resume { line } => run_resume(card, line, command),
         Command::Close { line } => run_close(card, line),
+        Command::Change {
+            line,
+            key,
+            position,
+        } => run_change(card, line, key, position, tray, command),
     }
 }

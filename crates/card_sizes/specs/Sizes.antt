@@ -10,9 +10,17 @@ stateWords = 38
 abbrev pub headWords : ℕ
 headWords = 4
 
+-- the words before the position of a change that waits: the head and the state
+abbrev pub dueAt : ℕ
+dueAt = headWords + stateWords
+
+-- and before the state that the waiting stream begins with: the position in two
+abbrev pub waitingAt : ℕ
+waitingAt = dueAt + 2
+
 -- the words of a line
 abbrev pub lineSize : ℕ
-lineSize = headWords + stateWords
+lineSize = waitingAt + stateWords
 
 -- the lines of a card
 abbrev pub lineCount : ℕ
@@ -84,6 +92,16 @@ parkLength = 2
 
 abbrev pub closeLength : ℕ
 closeLength = 2
+
+-- a change of key: kind, line, key number, IV, position in eight
+abbrev pub changeIv : ℕ
+changeIv = 3
+
+abbrev pub changeAt : ℕ
+changeAt = changeIv + ivLength
+
+abbrev pub changeLength : ℕ
+changeLength = changeAt + 8
 
 -- a resume: kind, line, image
 abbrev pub resumeImage : ℕ

@@ -7,8 +7,14 @@ pub const STATE: usize = 38;
 // The words before a line's state: its mode, its cipher and its position in two.
 pub const HEAD: usize = 4;
 
+// The words before the position of a change that waits: the head and the state.
+pub const DUE: usize = HEAD + STATE;
+
+// And before the state that the waiting stream begins with: the position in two.
+pub const WAITING: usize = DUE + 2;
+
 // The words of a line.
-pub const LINE: usize = HEAD + STATE;
+pub const LINE: usize = WAITING + STATE;
 
 // The lines of a card.
 pub const LINES: usize = 8;
@@ -61,6 +67,13 @@ pub const CRYPT: usize = 4;
 pub const PARK: usize = 2;
 
 pub const CLOSE: usize = 2;
+
+// A change of key: kind, line, key number, IV, position in eight.
+pub const CHANGE_IV: usize = 3;
+
+pub const CHANGE_AT: usize = CHANGE_IV + IV;
+
+pub const CHANGE: usize = CHANGE_AT + 8;
 
 // A resume: kind, line, image.
 pub const RESUME_IMAGE: usize = 2;

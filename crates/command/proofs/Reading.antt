@@ -17,7 +17,7 @@ use Rattle.command.specs.declared.CipherRead.the-variants.{Is, Unknown}
 use Rattle.command.specs.declared.Command.{Command}
 use Rattle.command.specs.declared.Decoded.{Decoded}
 use Rattle.command.specs.declared.Decoded.the-variants.{Run, Refused}
-use Rattle.command.specs.Decode.{readOf, withCipher, openOf, cryptOf, Form, forms, sizeIn, readIn, lengthOf, refusedIf, unread, commandOf, decodeOf, operandsOf, lineOf, sizeOf}
+use Rattle.command.specs.Decode.{readOf, withCipher, openOf, cryptOf, changeOf, Form, forms, sizeIn, readIn, lengthOf, refusedIf, unread, commandOf, decodeOf, operandsOf, lineOf, sizeOf}
 use Rattle.command.proofs.Rows.{by-rows, isNumber}
 
 -- ---- each form
@@ -54,11 +54,11 @@ says-cipher (Is c) f h = h c
 says-cipher Unknown f h = says-number tt
 
 forms-say : AllSay forms
-unfolding openOf cryptOf
+unfolding openOf cryptOf changeOf
 forms-say =
     each-says (λ s. says-cipher (readOf (getD s 2 0)) _ (λ c. says-run refl refl))
     (each-says (λ s. says-cipher (readOf (getD s 2 0)) _ (λ c. says-run refl refl))
-    (each-says (λ s. says-run refl refl) (each-says (λ s. says-run refl refl) (each-says (λ s. says-run refl refl) (each-says (λ s. says-run refl refl) none-says)))))
+    (each-says (λ s. says-run refl refl) (each-says (λ s. says-run refl refl) (each-says (λ s. says-run refl refl) (each-says (λ s. says-run refl refl) (each-says (λ s. says-run refl refl) none-says))))))
 
 -- ---- a command
 

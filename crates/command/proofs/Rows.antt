@@ -9,7 +9,7 @@ use lib.Dec.{T, eqb, leb, leb→le}
 use borrow.Author.Tests.{ne-eqb}
 use Rattle.words.specs.Tests.{both, pick}
 use Rattle.words.proofs.Table.{both-left, both-right}
-use Rattle.command.specs.Rows.{Row, unless, codeOf, lastNumber}
+use Rattle.command.specs.Rows.{Row, unless, codeOf, lastNumber, either}
 
 -- no row is given
 abbrev pub AllPassed : List Row → Type 0
@@ -55,6 +55,16 @@ below k z = leb→le k lastNumber (both-right (leb 1 k) (leb k lastNumber) z)
 
 pub not-zero : (k : ℕ) → T (isNumber k) → eqb k 0 ≡ false
 not-zero k z = let h = above k z in ne-eqb k 0 (λ e. let q : k ≡ 0 = e in omega arith)
+
+-- ---- a row with two conditions, of which neither holds
+
+pub either-left : (b c : Bool) → either b c ≡ false → b ≡ false
+either-left true c h = h
+either-left false c h = refl
+
+pub either-right : (b c : Bool) → either b c ≡ false → c ≡ false
+either-right true c h = absurd (let z : _≡_ {A = ℕ} 0 1 = cc in omega arith)
+either-right false c h = h
 
 -- ---- the number of a list of refusals
 

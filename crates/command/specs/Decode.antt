@@ -2,18 +2,19 @@
 -- Assumes nothing.
 use mathlib.Core.Bool.{Bool}
 use mathlib.Core.List.{List, [], _∷_}
-use Prim.Native.Nat.{ℕ, _+_, _*_}
+use Prim.Native.Nat.{ℕ, _+_, _*_, _^_}
 use lib.Dec.{ltb, eqb}
 use lib.ListN.{length, getD}
+use Rattle.words.specs.Strings.{wordAt}
 use Rattle.words.specs.Tests.{pick}
-use Rattle.card_sizes.specs.Sizes.{trayIv, trayLength, ownIv, ownLength, cryptLength, parkLength, resumeLength, closeLength}
+use Rattle.card_sizes.specs.Sizes.{trayIv, trayLength, ownIv, ownLength, cryptLength, parkLength, resumeLength, closeLength, changeIv, changeAt, changeLength}
 use Rattle.command.specs.Rows.{Row, _when_, unless}
 use Rattle.command.specs.declared.Cipher.{Cipher}
 use Rattle.command.specs.declared.Cipher.the-variants.{Zuc, Rabbit, Snow128, Snow256, Kcipher2, Mugi}
 use Rattle.command.specs.declared.CipherRead.{CipherRead}
 use Rattle.command.specs.declared.CipherRead.the-variants.{Is, Unknown}
 use Rattle.command.specs.declared.Command.{Command}
-use Rattle.command.specs.declared.Command.the-variants.{Tray, Own, Crypt, Park, Resume, Close}
+use Rattle.command.specs.declared.Command.the-variants.{Tray, Own, Crypt, Park, Resume, Close, Change}
 use Rattle.command.specs.declared.Decoded.{Decoded}
 use Rattle.command.specs.declared.Decoded.the-variants.{Run, Refused}
 
@@ -45,6 +46,10 @@ openOf k s = withCipher (readOf (getD s 2 0)) (λ c. pick (eqb k 1) (Run (Tray (
 unfoldable pub cryptOf : List ℕ → Decoded
 cryptOf s = Run (Crypt (getD s 1 0) (getD s 2 0 * 256 + getD s 3 0))
 
+-- a change of key: line, key number, position in eight bytes
+unfoldable pub changeOf : List ℕ → Decoded
+changeOf s = Run (Change (getD s 1 0) (getD s 2 0) (wordAt s changeAt * 2 ^ 32 + wordAt s (changeAt + 4)))
+
 -- ---- the commands: first byte, length, and what the bytes say; the second byte is the line
 
 pub record Form : Type 0 where
@@ -63,6 +68,7 @@ forms =
     ∷ form 4 parkLength (λ s. Run (Park (getD s 1 0)))
     ∷ form 5 resumeLength (λ s. Run (Resume (getD s 1 0)))
     ∷ form 6 closeLength (λ s. Run (Close (getD s 1 0)))
+    ∷ form 7 changeLength changeOf
     ∷ []
 
 abbrev pub sizeIn : List Form → ℕ → ℕ
@@ -73,7 +79,7 @@ abbrev pub readIn : List Form → ℕ → List ℕ → Decoded
 readIn [] k s = Refused 2
 readIn (f ∷ fs) k s = pick (eqb k (f .kind)) (f .read s) (readIn fs k s)
 
--- the length of a command by its first byte, and 0 where that is not 01 to 06
+-- the length of a command by its first byte, and 0 where that is not 01 to 07
 unfoldable pub lengthOf : ℕ → ℕ
 lengthOf k = sizeIn forms k
 
@@ -102,7 +108,7 @@ decodeOf s = unless refusedIf (unread s) (commandOf (getD s 0 0) s)
 
 -- ---- operands
 
--- The operands of a command: its first byte, its line and, 0 where it has none, the number of the cipher that it names, the number of its key in the tray, where its IV stands, and its count.
+-- The operands of a command: its first byte, its line and, 0 where it has none, the number of the cipher that it names, the number of its key in the tray, where its IV stands, its count and its position.
 pub record Operands : Type 0 where
   pub kind : ℕ
   pub line : ℕ
@@ -110,14 +116,16 @@ pub record Operands : Type 0 where
   pub keyNumber : ℕ
   pub ivAt : ℕ
   pub count : ℕ
+  pub position : ℕ
 
 abbrev pub operandsOf : Command → Operands
-operandsOf (Tray i c k) = record { kind = 1; line = i; cipher = numberOf c; keyNumber = k; ivAt = trayIv; count = 0 }
-operandsOf (Own i c) = record { kind = 2; line = i; cipher = numberOf c; keyNumber = 0; ivAt = ownIv; count = 0 }
-operandsOf (Crypt i n) = record { kind = 3; line = i; cipher = 0; keyNumber = 0; ivAt = 0; count = n }
-operandsOf (Park i) = record { kind = 4; line = i; cipher = 0; keyNumber = 0; ivAt = 0; count = 0 }
-operandsOf (Resume i) = record { kind = 5; line = i; cipher = 0; keyNumber = 0; ivAt = 0; count = 0 }
-operandsOf (Close i) = record { kind = 6; line = i; cipher = 0; keyNumber = 0; ivAt = 0; count = 0 }
+operandsOf (Tray i c k) = record { kind = 1; line = i; cipher = numberOf c; keyNumber = k; ivAt = trayIv; count = 0; position = 0 }
+operandsOf (Own i c) = record { kind = 2; line = i; cipher = numberOf c; keyNumber = 0; ivAt = ownIv; count = 0; position = 0 }
+operandsOf (Crypt i n) = record { kind = 3; line = i; cipher = 0; keyNumber = 0; ivAt = 0; count = n; position = 0 }
+operandsOf (Park i) = record { kind = 4; line = i; cipher = 0; keyNumber = 0; ivAt = 0; count = 0; position = 0 }
+operandsOf (Resume i) = record { kind = 5; line = i; cipher = 0; keyNumber = 0; ivAt = 0; count = 0; position = 0 }
+operandsOf (Close i) = record { kind = 6; line = i; cipher = 0; keyNumber = 0; ivAt = 0; count = 0; position = 0 }
+operandsOf (Change i k p) = record { kind = 7; line = i; cipher = 0; keyNumber = k; ivAt = changeIv; count = 0; position = p }
 
 -- the line that a command names, and its length
 abbrev pub lineOf : Command → ℕ

@@ -2,6 +2,7 @@
 // The caller need not ensure anything: any byte is read.
 ghost use mathlib.Core.Path.{_≡_};
 ghost use Rattle.command.specs.Decode.{readOf, lengthOf, refusalOf};
+use card_sizes::CHANGE;
 use card_sizes::CLOSE;
 use card_sizes::CRYPT;
 use card_sizes::OWN;
@@ -23,7 +24,7 @@ pub enum CipherRead {
     Unknown,
 }
 
-// A command with its operands. Key and IV of an open, and the image of a resume, stay in the command's bytes.
+// A command with its operands. Key and IV of an open, the IV of a change, and the image of a resume stay in the command's bytes.
 pub enum Command {
     Tray { line: u8, cipher: Cipher, key: u8 },
     Own { line: u8, cipher: Cipher },
@@ -31,6 +32,7 @@ pub enum Command {
     Park { line: u8 },
     Resume { line: u8 },
     Close { line: u8 },
+    Change { line: u8, key: u8, position: u64 },
 }
 
 pub enum Decoded {
@@ -64,6 +66,7 @@ pub fn length_of(kind: u8) -> usize
         4 => PARK,
         5 => RESUME,
         6 => CLOSE,
+        7 => CHANGE,
         _ => 0,
     }
 }

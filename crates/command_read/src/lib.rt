@@ -3,7 +3,9 @@
 ghost use mathlib.Core.Path.{_≡_};
 ghost use Prim.Native.Nat.{_≤_};
 ghost use lib.ListN.{length};
-ghost use Rattle.command.specs.Decode.{lengthOf, openOf, cryptOf, commandOf, decodeOf};
+ghost use Rattle.card_sizes.specs.Sizes.{changeLength};
+ghost use Rattle.command.specs.Decode.{lengthOf, openOf, cryptOf, changeOf, commandOf, decodeOf};
+use card_sizes::CHANGE_AT;
 use command::CipherRead;
 use command::Command;
 use command::Decoded;
@@ -45,6 +47,23 @@ fn read_crypt(s: &[u8]) -> Decoded
     Decoded::Run(Command::Crypt { line, count })
 }
 
+// A change of key.
+fn read_change(s: &[u8]) -> Decoded
+    requires { ⌜ changeLength ≤ length (now s) ⌝ }
+    ensures { λ r. ⌜ r ≡ changeOf (now (s .entry)) ⌝ }
+{
+    let line = s[1];
+    let key = s[2];
+    let high = words::word_at(s, CHANGE_AT) as u64;
+    let low = words::word_at(s, CHANGE_AT + 4) as u64;
+    let position = high * 4294967296 + low;
+    Decoded::Run(Command::Change {
+        line,
+        key,
+        position,
+    })
+}
+
 // A command that is whole, by its kind.
 fn read_command(kind: u8, s: &[u8]) -> Decoded
     requires { ⌜ (2 ≤ length (now s)) × (lengthOf kind ≤ length (now s)) ⌝ }
@@ -58,6 +77,7 @@ fn read_command(kind: u8, s: &[u8]) -> Decoded
         4 => Decoded::Run(Command::Park { line }),
         5 => Decoded::Run(Command::Resume { line }),
         6 => Decoded::Run(Command::Close { line }),
+        7 => read_change(s),
         _ => Decoded::Refused(2),
     }
 }

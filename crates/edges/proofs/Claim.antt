@@ -9,28 +9,29 @@ use lib.Dec.{lit≤}
 use Rattle.ciphers.specs.Fit.{Fit}
 use Rattle.ciphers.specs.Table.{cipherAt, zuc, rabbit, snow128, snow256, kcipher2, mugi}
 use Rattle.command.specs.Decode.{lengthOf}
-use Rattle.machine.specs.Machine.{MLine, shown, based, imageOf, imageLine, byteOf, limit, decided, refuseIf, spareUsed, blankKey}
+use Rattle.card_moves.specs.Moves.{comesDue, positionOn}
+use Rattle.machine.specs.Machine.{MLine, plain, shown, based, imageOf, imageLine, byteOf, limit, decided, refuseIf, spareUsed, blankKey}
 use Rattle.machine.specs.Parks.{noMore}
 use Rattle.words.specs.Lists.{Word}
 use Rattle.machine.specs.OneStream.{GoesOn}
-use Rattle.machine.proofs.Lines.{good-open, good-behind, Good}
+use Rattle.machine.proofs.Lines.{none-waits, good-open, good-behind, Good}
 use Rattle.machine.proofs.Images.{image-goes-on}
 use Rattle.machine.proofs.OneStream.{sized}
 use Rattle.cases.specs.Table.{Row}
-use Rattle.edges.specs.Table.{table, crypting, parking, opening}
+use Rattle.edges.specs.Table.{table, crypting, spanning, parking, parkingBefore, opening, changing}
 
 pub edges : map (λ (r : Row). r .computed) table ≡ map (λ (r : Row). r .stated) table
-unfolding table crypting parking opening noMore decided refuseIf lengthOf spareUsed blankKey cipherAt zuc rabbit snow128 snow256 kcipher2 mugi
+unfolding table crypting spanning parking parkingBefore opening changing noMore decided refuseIf lengthOf spareUsed blankKey cipherAt zuc rabbit snow128 snow256 kcipher2 mugi comesDue positionOn
 edges = refl
 
 -- ZUC, whose unit is four bytes, at position n of the stream of S(0) = w
 abbrev at : List ℕ → ℕ → MLine
-at w n = record { mode = 1; cipher = 1; base = w; from = 0; pos = n }
+at w n = plain 1 1 w 0 n
 
 resumed : (w : List ℕ) (n k : ℕ) → n ≤ limit → Word k → Fit (cipherAt 1) w → GoesOn (at w n) (based (imageLine (imageOf k (shown (at w n)))))
 resumed w n k h q f =
-    let g : Good (at w n) = good-open {l = at w n} refl refl h (omega arith) f in
-    image-goes-on (at w n) (good-behind (at w n) g) (sized (at w n) g refl) k q (imageOf k (shown (at w n))) refl
+    let g : Good (at w n) = good-open {l = at w n} refl refl h (omega arith) f (none-waits refl refl) in
+    image-goes-on (at w n) (good-behind (at w n) g) (sized (at w n) g refl refl) k q (imageOf k (shown (at w n))) refl
 
 pub at-a-unit's-end : (w : List ℕ) (k : ℕ) → Word k → Fit (cipherAt 1) w → byteOf (based (imageLine (imageOf k (shown (at w 4))))) 4 ≡ byteOf (at w 4) 4
 at-a-unit's-end w k q f = resumed w 4 k (lit≤ tt) q f .bytes 4 (lit≤ tt)

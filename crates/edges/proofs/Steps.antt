@@ -5,12 +5,17 @@ use mathlib.Core.List.{map}
 use Rattle.words.specs.Lists.{iter}
 use Rattle.words.specs.Strings.{wordAt, bytesOf}
 use Rattle.keystream.specs.Stream.{stateAt, byteAt, xorFrom}
+use Rattle.rabbit_tables.specs.Tables.{aList}
+use Rattle.rabbit.specs.Cipher.{g, carryAt, counted, gs, mixed, next, halfAt, parts8, parts4, arranged, loaded, master, ivWords, modified, withIv, started, init}
+use Rattle.snow2.specs.Cipher.{f, strm, unit}
+use Rattle.ciphers.specs.States.{rabbitWords, snow2State}
 use Rattle.ciphers.specs.Table.{cipherAt, zuc, rabbit, snow128, snow256, kcipher2, mugi}
-use Rattle.command.specs.Decode.{readOf, lengthOf, openOf, cryptOf, commandOf, decodeOf}
-use Rattle.machine.specs.Machine.{unitAt, stateOf, byteOf, shown, based, enciphered, moved, opened, imageOf, imageLine, imageNumber, openOk, idleOk, lineOk, viewOf, spareUsed, blankKey, refuseIf, decided, decide, step, cardStep}
+use Rattle.command.specs.Decode.{readOf, lengthOf, openOf, cryptOf, changeOf, commandOf, decodeOf}
+use Rattle.card_moves.specs.Moves.{comesDue, positionOn}
+use Rattle.machine.specs.Machine.{unitAt, stateOf, byteOf, shown, based, enciphered, moved, opened, imageOf, imageLine, imageNumber, along, renewed, xored, changed, stateOk, changeOk, openOk, idleOk, lineOk, viewOf, spareUsed, blankKey, refuseIf, decided, decide, step, cardStep}
 use Rattle.machine.specs.Parks.{noMore, numberNow, parked, holds, taken, parksOk}
-use Rattle.edges.specs.Steps.{Step, answer, modes, positions, numbers, writes, reads, openness, opens, images, crypts, parks, damage, calls}
+use Rattle.edges.specs.Steps.{Step, answer, modes, positions, dues, stateOn, done, numbers, writes, reads, openness, opens, images, crypts, parks, changes, comings, damage, calls}
 
 pub steps : map (λ (s : Step). s .computed) calls ≡ map (λ (s : Step). s .stated) calls
-unfolding calls reads openness opens images crypts parks damage answer modes positions numbers writes noMore numberNow parked holds taken parksOk imageNumber cardStep step decide decided refuseIf spareUsed blankKey viewOf lineOk idleOk openOk imageLine imageOf opened moved enciphered based shown byteOf stateOf unitAt decodeOf commandOf cryptOf openOf lengthOf readOf cipherAt zuc rabbit snow128 snow256 kcipher2 mugi wordAt bytesOf iter stateAt byteAt xorFrom
+unfolding calls reads openness opens images crypts parks changes comings damage answer modes positions dues stateOn done numbers writes noMore numberNow parked holds taken parksOk imageNumber cardStep step decide decided refuseIf spareUsed blankKey viewOf lineOk idleOk openOk changeOk stateOk imageLine imageOf opened changed moved enciphered xored renewed along based shown byteOf stateOf unitAt decodeOf commandOf changeOf cryptOf openOf lengthOf readOf cipherAt zuc rabbit snow128 snow256 kcipher2 mugi wordAt bytesOf iter stateAt byteAt xorFrom comesDue positionOn aList g carryAt counted gs mixed next halfAt parts8 parts4 arranged loaded master ivWords modified withIv started init rabbitWords snow2State f strm unit
 steps = refl

@@ -1,10 +1,11 @@
--- The edges of document 01, and of its parks by document 02, on whole calls: real command bytes on a card of eight lines, and for each call its code, its three counts and, where it is accepted, what the lines and the parks are after it.
+-- The edges of document 01, and of its parks and changes of key by document 02, on whole calls: real command bytes on a card of eight lines, and for each call its code, its three counts and,
+-- where it is accepted, what the lines and the parks are after it.
 -- Assumes nothing.
 use mathlib.Core.List.{List, [], _∷_, _++_, map}
 use Prim.Native.Nat.{ℕ, zero, suc, _+_, _-_, _/_, _%_, _^_}
-use lib.ListN.{length, replicate, set}
+use lib.ListN.{length, getD, take, replicate, set}
 use Rattle.card_sizes.specs.Sizes.{stateWords, imageLength, resumeLength}
-use Rattle.machine.specs.Machine.{Line, Seen, Call, idleLine, cardStep}
+use Rattle.machine.specs.Machine.{Line, Seen, Call, plainLine, idleLine, cardStep}
 use Rattle.machine.specs.Parks.{Parks, freshParks, lastPark}
 use Rattle.edges.specs.Table.{trayOf}
 
@@ -34,7 +35,11 @@ abbrev blank : List ℕ
 blank = zeros stateWords
 
 abbrev openLine : (cipher n : ℕ) → List ℕ → Line
-openLine c n w = record { mode = 1; cipher = c; n = n; words = w }
+openLine c n w = plainLine 1 c n w
+
+-- with a change that waits at position d for the stream of S(0) s
+abbrev beforeChange : (cipher n : ℕ) → List ℕ → (d : ℕ) → List ℕ → Line
+beforeChange c n w d s = record { mode = 1; cipher = c; n = n; words = w; due = d; waiting = s }
 
 -- ZUC's sixteen cells, each 1, and zeros behind them
 abbrev cells : List ℕ
@@ -63,6 +68,10 @@ after p = record { lines = eight .lines; parks = p }
 abbrev held : Line → (count : ℕ) → List ℕ → Seen
 held l k ns = record { lines = set (eight .lines) 7 l; parks = record { count = k; held = ns } }
 
+-- that card with line 4 two bytes before the end of its stream, and there a change that waits; SNOW 2.0's unit of a word and zeros is that word
+abbrev waiting : Seen
+waiting = with 4 (beforeChange 3 (end - 2) (set blank 0 0x01020304) end (set blank 0 0x05060708))
+
 -- ---- commands in bytes
 
 abbrev crypt : (i count : ℕ) → List ℕ
@@ -83,6 +92,10 @@ fromTray i c k v = 1 ∷ i ∷ c ∷ k ∷ ones 16 v
 
 abbrev own : (i cipher key iv : ℕ) → List ℕ
 own i c k v = 2 ∷ i ∷ c ∷ (ones 32 k ++ ones 16 v)
+
+-- key number k of the tray, and an IV of so many ones; the position's fifth byte from its end and its last
+abbrev change : (i number iv high low : ℕ) → List ℕ
+change i k v h l = 7 ∷ i ∷ k ∷ (ones 16 v ++ (0 ∷ 0 ∷ 0 ∷ h ∷ 0 ∷ 0 ∷ 0 ∷ l ∷ []))
 
 -- a state's 152 bytes: words of the one byte that is given, zeros behind them
 abbrev spelled : (words byte : ℕ) → List ℕ
@@ -114,6 +127,10 @@ lent c t d o = record { command = c; tray = trayOf t; text = zeros d; out = zero
 abbrev keyed : (command tray : List ℕ) → Call
 keyed c t = record { command = c; tray = t; text = []; out = [] }
 
+-- lent these bytes as data, and room for as many
+abbrev fed : (command text : List ℕ) → Call
+fed c d = record { command = c; tray = []; text = d; out = zeros (length d) }
+
 -- its code and its three counts
 unfoldable pub answer : Seen → Call → List ℕ
 answer c a = let o = cardStep c a .outcome in o .code ∷ o .used-command ∷ o .used-data ∷ length (o .output) ∷ []
@@ -124,6 +141,17 @@ modes c a = map (λ (l : Line). l .mode) (cardStep c a .card .lines)
 
 unfoldable pub positions : Seen → Call → List ℕ
 positions c a = map (λ (l : Line). l .n) (cardStep c a .card .lines)
+
+-- those of the changes that wait, and the state of line i
+unfoldable pub dues : Seen → Call → List ℕ
+dues c a = map (λ (l : Line). l .due) (cardStep c a .card .lines)
+
+unfoldable pub stateOn : ℕ → Seen → Call → List ℕ
+stateOn i c a = getD (cardStep c a .card .lines) i idleLine .words
+
+-- the card after it
+unfoldable pub done : Seen → Call → Seen
+done c a = cardStep c a .card
 
 -- how many parks were made, and the numbers held; after it
 abbrev numbersOn : Seen → List ℕ
@@ -151,11 +179,14 @@ unfoldable pub reads : List Step
 reads =
     answer eight (lent [] 0 0 0) gives refusal 1
     ∷ answer eight (lent (0 ∷ []) 0 0 0) gives refusal 2
-    ∷ answer eight (lent (7 ∷ []) 0 0 0) gives refusal 2
+    ∷ answer eight (lent (8 ∷ []) 0 0 0) gives refusal 2
+    ∷ answer eight (lent (7 ∷ []) 0 0 0) gives refusal 1
     ∷ answer eight (lent (3 ∷ 2 ∷ 0 ∷ []) 0 0 0) gives refusal 1
     ∷ answer eight (lent (6 ∷ []) 0 0 0) gives refusal 1
     -- cut short before a line over 7
     ∷ answer eight (lent (3 ∷ 8 ∷ []) 0 0 0) gives refusal 1
+    ∷ answer eight (lent (take 26 (change 8 0 16 0 5)) 32 0 0) gives refusal 1
+    ∷ answer eight (lent (change 8 0 16 0 5) 32 0 0) gives refusal 3
     ∷ answer eight (lent (close 8) 0 0 0) gives refusal 3
     ∷ answer eight (lent (close 255) 0 0 0) gives refusal 3
     -- a line over 7 before an unknown cipher
@@ -301,21 +332,138 @@ parks =
     ∷ answer takenTwice (lent (bring 1 9) 0 0 0) gives refusal 14
     ∷ []
 
+-- 6, 17, 18, 9, 10, 7, 16 of a change, 17 of a park, and the changes that pass
+
+-- line 4 open with SNOW 2.0 of the longer key
+abbrev longKey : Seen
+longKey = with 4 (openLine 4 5 blank)
+
+-- a card with as many parks as 32 bits count
+abbrev allParked : Seen → Seen
+allParked c = record { lines = c .lines; parks = record { count = lastPark; held = zeros 8 } }
+
+unfoldable pub changes : List Step
+changes =
+    -- 6 before 18 before 9, and before 10
+    answer eight (lent (change 0 0 16 16 1) 33 0 0) gives refusal 6
+    ∷ answer eight (lent (change 2 0 16 0 4) 33 0 0) gives refusal 18
+    ∷ answer eight (lent (change 2 0 16 16 1) 0 0 0) gives refusal 18
+    -- 17 before 18, and where the position is one to wait at
+    ∷ answer waiting (lent (change 4 0 16 0 0) 33 0 0) gives refusal 17
+    ∷ answer waiting (lent (change 4 0 16 16 0) 32 0 0) gives refusal 17
+    -- a park: 17 before 15 before 12
+    ∷ answer waiting (lent (park 4) 0 0 imageLength) gives refusal 17
+    ∷ answer (allParked waiting) (lent (park 4) 0 0 0) gives refusal 17
+    ∷ answer (allParked waiting) (lent (park 2) 0 0 0) gives refusal 15
+    -- at the line's position, at 2^36, and there where the line is at it
+    ∷ answer eight (lent (change 2 0 16 0 5) 32 0 0) gives accepted 27 0 0
+    ∷ answer eight (lent (change 2 0 16 16 0) 32 0 0) gives accepted 27 0 0
+    ∷ answer eight (lent (change 5 0 16 16 0) 32 0 0) gives accepted 27 0 0
+    ∷ answer eight (lent (change 5 0 16 15 0) 32 0 0) gives refusal 18
+    -- the tray: 9, 10 before 7
+    ∷ answer eight (lent (change 2 255 16 0 5) 8224 0 0) gives refusal 9
+    ∷ answer eight (lent (change 2 0 16 0 5) 0 0 0) gives refusal 10
+    ∷ answer eight (lent (change 3 1 9 0 16) 32 0 0) gives refusal 10
+    -- a byte too many for the line's cipher: of an IV for Rabbit, of a key for ZUC and not for SNOW 2.0 of the longer key
+    ∷ answer eight (lent (change 3 0 9 0 16) 32 0 0) gives refusal 7
+    ∷ answer eight (lent (change 3 0 8 0 16) 32 0 0) gives accepted 27 0 0
+    ∷ answer eight (keyed (change 2 0 16 0 5) (ones 32 17)) gives refusal 7
+    ∷ answer longKey (keyed (change 4 0 16 0 5) (ones 32 17)) gives accepted 27 0 0
+    -- 7 before 16, and a key that is all zero in the line's cipher's own length
+    ∷ answer eight (keyed (change 2 0 16 0 5) (zeros 16 ++ ones 16 1)) gives refusal 7
+    ∷ answer longKey (keyed (change 4 0 16 0 5) (zeros 16 ++ ones 16 1)) gives accepted 27 0 0
+    ∷ answer eight (keyed (change 2 0 16 0 5) (zeros 32)) gives refusal 16
+    ∷ answer eight (keyed (change 2 0 16 0 6) (zeros 32)) gives refusal 16
+    ∷ answer longKey (keyed (change 4 1 16 0 5) (ones 32 32 ++ zeros 32)) gives refusal 16
+    ∷ []
+
+-- when a change comes due, and what the line is then
+
+-- a change of line 3 at a position, and the state that an open with its key and IV gives
+abbrev changeOf3 : ℕ → Call
+changeOf3 p = lent (change 3 0 8 0 p) 32 0 0
+
+abbrev newState : List ℕ
+newState = stateOn 0 eight (lent (fromTray 0 2 0 8) 32 0 0)
+
+-- so many bytes on line 3
+abbrev cryptOf3 : ℕ → Call
+cryptOf3 k = lent (crypt 3 k) 0 k k
+
+-- and on line 4, of 10, 20, .. in hexadecimal
+abbrev cryptOf4 : ℕ → Call
+cryptOf4 k = fed (crypt 4 k) (take k (0x10 ∷ 0x20 ∷ 0x30 ∷ 0x40 ∷ 0x50 ∷ []))
+
+unfoldable pub comings : List Step
+comings =
+    -- at the line's position: at once
+    positions eight (changeOf3 16) gives (0 ∷ 0 ∷ 5 ∷ 0 ∷ last ∷ end ∷ 0 ∷ 0 ∷ [])
+    ∷ dues eight (changeOf3 16) gives zeros 8
+    ∷ stateOn 3 eight (changeOf3 16) gives newState
+    ∷ positions eight (lent (change 5 0 16 16 0) 32 0 0) gives (0 ∷ 0 ∷ 5 ∷ 16 ∷ last ∷ 0 ∷ 0 ∷ 0 ∷ [])
+    ∷ dues eight (lent (change 7 0 16 0 0) 32 0 0) gives zeros 8
+    -- above it: it waits, at a position of eight bytes, up to 2^36
+    ∷ positions eight (changeOf3 18) gives positions eight (lent [] 0 0 0)
+    ∷ dues eight (changeOf3 18) gives (zeros 3 ++ (18 ∷ zeros 4))
+    ∷ stateOn 3 eight (changeOf3 18) gives blank
+    ∷ dues eight (lent (7 ∷ 2 ∷ 0 ∷ (zeros 16 ++ (0 ∷ 0 ∷ 0 ∷ 1 ∷ 2 ∷ 3 ∷ 4 ∷ 5 ∷ []))) 32 0 0) gives (zeros 2 ++ (0x0102030405 ∷ zeros 5))
+    ∷ dues eight (lent (change 2 0 16 16 0) 32 0 0) gives (zeros 2 ++ (end ∷ zeros 5))
+    -- a refused change leaves none
+    ∷ dues eight (changeOf3 15) gives zeros 8
+    -- at a crypt's end, and one byte before it
+    ∷ positions (done eight (changeOf3 18)) (cryptOf3 2) gives (0 ∷ 0 ∷ 5 ∷ 0 ∷ last ∷ end ∷ 0 ∷ 0 ∷ [])
+    ∷ dues (done eight (changeOf3 18)) (cryptOf3 2) gives zeros 8
+    ∷ stateOn 3 (done eight (changeOf3 18)) (cryptOf3 2) gives newState
+    ∷ positions (done eight (changeOf3 19)) (cryptOf3 2) gives (0 ∷ 0 ∷ 5 ∷ 18 ∷ last ∷ end ∷ 0 ∷ 0 ∷ [])
+    ∷ dues (done eight (changeOf3 19)) (cryptOf3 2) gives (zeros 3 ++ (19 ∷ zeros 4))
+    -- no bytes, and those of another line, leave it waiting
+    ∷ dues waiting (cryptOf4 0) gives (zeros 4 ++ (end ∷ zeros 3))
+    ∷ dues waiting (lent (crypt 2 7) 0 8 9) gives (zeros 4 ++ (end ∷ zeros 3))
+    -- within a crypt: the old stream's bytes up to it and the new one's after it, past 2^36 in all
+    ∷ answer waiting (cryptOf4 5) gives accepted 4 5 5
+    ∷ writes waiting (cryptOf4 5) gives (0x13 ∷ 0x24 ∷ 0x35 ∷ 0x46 ∷ 0x57 ∷ [])
+    ∷ positions waiting (cryptOf4 5) gives (0 ∷ 0 ∷ 5 ∷ 16 ∷ 3 ∷ end ∷ 0 ∷ 0 ∷ [])
+    ∷ dues waiting (cryptOf4 5) gives zeros 8
+    ∷ writes waiting (cryptOf4 1) gives (0x13 ∷ [])
+    ∷ writes (done waiting (cryptOf4 1)) (cryptOf4 3) gives (0x14 ∷ 0x25 ∷ 0x36 ∷ [])
+    -- then a park is of the new stream, and another change is taken
+    ∷ writes (done waiting (cryptOf4 5)) (lent (park 4) 0 0 imageLength) gives image 3 0 3 8 (5 ∷ 6 ∷ 7 ∷ 8 ∷ spelled 37 0)
+    ∷ answer (done waiting (cryptOf4 5)) (lent (change 4 0 16 0 4) 32 0 0) gives accepted 27 0 0
+    -- a close drops it: the line is idle as on a fresh card
+    ∷ modes waiting (lent (close 4) 0 0 0) gives (0 ∷ 0 ∷ 1 ∷ 1 ∷ 0 ∷ 1 ∷ 0 ∷ 1 ∷ [])
+    ∷ dues waiting (lent (close 4) 0 0 0) gives zeros 8
+    ∷ answer (done waiting (lent (close 4) 0 0 0)) (lent (close 2) 0 0 0) gives accepted 2 0 0
+    ∷ []
+
 -- 255 before all others, whichever line it is
 unfoldable pub damage : List Step
 damage =
-    answer (with 0 (record { mode = 0; cipher = 1; n = 0; words = blank })) (lent [] 0 0 0) gives refusal 255
-    ∷ answer (with 6 (record { mode = 0; cipher = 0; n = 1; words = blank })) (lent (close 2) 0 0 0) gives refusal 255
-    ∷ answer (with 1 (record { mode = 0; cipher = 0; n = 0; words = set blank 37 1 })) (lent (close 2) 0 0 0) gives refusal 255
-    ∷ answer (with 7 (record { mode = 2; cipher = 5; n = 0; words = blank })) (lent (close 2) 0 0 0) gives refusal 255
+    answer (with 0 (plainLine 0 1 0 blank)) (lent [] 0 0 0) gives refusal 255
+    ∷ answer (with 6 (plainLine 0 0 1 blank)) (lent (close 2) 0 0 0) gives refusal 255
+    ∷ answer (with 1 (plainLine 0 0 0 (set blank 37 1))) (lent (close 2) 0 0 0) gives refusal 255
+    ∷ answer (with 7 (plainLine 2 5 0 blank)) (lent (close 2) 0 0 0) gives refusal 255
     ∷ answer (with 3 (openLine 7 0 blank)) (lent (close 2) 0 0 0) gives refusal 255
     ∷ answer (with 7 (openLine 5 (end + 1) blank)) (lent (close 2) 0 0 0) gives refusal 255
     ∷ answer (with 3 (openLine 1 0 blank)) (lent (close 2) 0 0 0) gives refusal 255
     ∷ answer (with 3 (openLine 5 end blank)) (lent (close 2) 0 0 0) gives accepted 2 0 0
+    -- a change that waits at the line's position, below it, or above 2^36; one above it, and at 2^36
+    ∷ answer (with 4 (beforeChange 3 5 blank 5 blank)) (lent [] 0 0 0) gives refusal 255
+    ∷ answer (with 4 (beforeChange 3 5 blank 4 blank)) (lent (close 2) 0 0 0) gives refusal 255
+    ∷ answer (with 4 (beforeChange 3 5 blank (end + 1) blank)) (lent (close 2) 0 0 0) gives refusal 255
+    ∷ answer (with 4 (beforeChange 3 5 blank 6 blank)) (lent (close 2) 0 0 0) gives accepted 2 0 0
+    ∷ answer (with 4 (beforeChange 3 5 blank end blank)) (lent (close 2) 0 0 0) gives accepted 2 0 0
+    -- on an idle line; and a state where nothing waits, on an idle line and on an open one
+    ∷ answer (with 0 (record { mode = 0; cipher = 0; n = 0; words = blank; due = 1; waiting = blank })) (lent (close 2) 0 0 0) gives refusal 255
+    ∷ answer (with 0 (record { mode = 0; cipher = 0; n = 0; words = blank; due = 0; waiting = set blank 37 1 })) (lent (close 2) 0 0 0) gives refusal 255
+    ∷ answer (with 4 (beforeChange 3 5 blank 0 (set blank 0 1))) (lent (close 2) 0 0 0) gives refusal 255
+    -- an S(0) with a cell of 0, and with a word behind it
+    ∷ answer (with 2 (beforeChange 1 5 cells 6 blank)) (lent (close 2) 0 0 0) gives refusal 255
+    ∷ answer (with 2 (beforeChange 1 5 cells 6 cells)) (lent (close 2) 0 0 0) gives accepted 2 0 0
+    ∷ answer (with 4 (beforeChange 3 5 blank 6 (set blank 18 1))) (lent (close 2) 0 0 0) gives refusal 255
     -- a held number above the count, and one held twice
     ∷ answer (after (record { count = 6; held = eight .parks .held })) (lent [] 0 0 0) gives refusal 255
     ∷ answer (after (record { count = 7; held = 3 ∷ 0 ∷ 7 ∷ zeros 4 ++ (3 ∷ []) })) (lent (close 2) 0 0 0) gives refusal 255
     ∷ []
 
 unfoldable pub calls : List Step
-calls = reads ++ (openness ++ (opens ++ (images ++ (crypts ++ (parks ++ damage)))))
+calls = reads ++ (openness ++ (opens ++ (images ++ (crypts ++ (parks ++ (changes ++ (comings ++ damage)))))))

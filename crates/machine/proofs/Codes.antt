@@ -8,7 +8,7 @@ use lib.Dec.{lit≤}
 use native.Mathlib.Omega.{arith}
 use Rattle.words.specs.Tests.{pick}
 use Rattle.command.specs.declared.Command.{Command}
-use Rattle.command.specs.declared.Command.the-variants.{Tray, Own, Crypt, Park, Resume, Close}
+use Rattle.command.specs.declared.Command.the-variants.{Tray, Own, Crypt, Park, Resume, Close, Change}
 use Rattle.command.specs.declared.Decoded.{Decoded}
 use Rattle.command.specs.declared.Decoded.the-variants.{Run, Refused}
 use Rattle.command.specs.Decode.{decodeOf}
@@ -28,13 +28,14 @@ module _ (m : Machine) (a : Call) where
   abbrev Small : Effect → Type 0
   Small e = perform m (a .text) e .outcome .code ≤ lastNumber
 
-  effect-small : (c : Command) → Small (effectOf c a)
+  effect-small : (c : Command) → Small (effectOf c (public m) a)
   effect-small (Tray i c k) = lit≤ tt
   effect-small (Own i c) = lit≤ tt
   effect-small (Crypt i n) = lit≤ tt
   effect-small (Park i) = lit≤ tt
   effect-small (Resume i) = lit≤ tt
   effect-small (Close i) = lit≤ tt
+  effect-small (Change i k p) = lit≤ tt
 
   decoded-small : (d : Decoded) → ReadIn (a .command) d → Small (ofDecoded d (public m) a)
   decoded-small (Run c) h = decided-by Small below c (public m) a (λ _. effect-small c)

@@ -10,17 +10,17 @@ use lib.Seq.{take-at}
 use borrow.Author.Tests.{ltb-false, not-false}
 use Rattle.words.specs.Tests.{pick}
 use Rattle.command.specs.declared.Command.{Command}
-use Rattle.command.specs.declared.Command.the-variants.{Tray, Own, Crypt, Park, Resume, Close}
+use Rattle.command.specs.declared.Command.the-variants.{Tray, Own, Crypt, Park, Resume, Close, Change}
 use Rattle.command.specs.declared.Decoded.{Decoded}
 use Rattle.command.specs.declared.Decoded.the-variants.{Run, Refused}
-use Rattle.command.specs.Decode.{decodeOf, lineOf}
+use Rattle.command.specs.Decode.{decodeOf, operandsOf, lineOf, sizeOf}
 use Rattle.command.proofs.Rows.{not-zero}
 use Rattle.command.proofs.Reading.{ReadIn, refused-in, run-in, Has, read-in}
-use Rattle.machine.specs.Machine.{Machine, lineAt, idle, shown, based, opened, enciphered, imageOf, imageLine, imageNumber, Call, Effect, refuse, put, crypt, park, resume, public, effectOf, ofDecoded, decide, perform, step, shows}
+use Rattle.machine.specs.Machine.{Machine, lineAt, idle, shown, based, opened, enciphered, streamOf, imageOf, imageLine, imageNumber, Call, Effect, refuse, put, crypt, park, resume, change, public, keyField, ivField, viewOf, effectOf, ofDecoded, decide, perform, step, shows}
 use Rattle.machine.specs.Parks.{noMore, numberNow, holds}
-use Rattle.machine.specs.Logs.{Made, madeOf, Did, did-nothing, did-open, did-crypt, did-park, did-resume, did-close, doneBy, did}
+use Rattle.machine.specs.Logs.{Made, madeOf, Did, did-nothing, did-open, did-crypt, did-park, did-resume, did-close, did-change, doneBy, did}
 use Rattle.machine.proofs.Rows.{Passed, passed, decided-by}
-use Rattle.machine.proofs.Simulation.{is-open}
+use Rattle.machine.proofs.Simulation.{of-view, is-open, none-due, not-below}
 
 -- the line that a call names
 pub record Names (a : Call) (j : ℕ) : Type 0 where
@@ -32,10 +32,12 @@ pub data Explained (m : Machine) (a : Call) : Effect → Did → Type 0 where
   was-open : {j size c : ℕ} {key iv : List ℕ} → Names a j → Explained m a (put j (opened c key iv) size) (did-open j c key iv)
   was-crypt : {j n size : ℕ} → Names a j → n ≤ length (a .text)
       → Explained m a (crypt j n size) (did-crypt j (take n (a .text)) (enciphered (lineAt m j) (take n (a .text))))
-  was-park : {j size : ℕ} → Names a j → lineAt m j .mode ≡ 1 → noMore (m .parks) ≡ false → Explained m a (park j size) (did-park j (imageOf (numberNow (m .parks)) (shown (lineAt m j))))
+  was-park : {j size : ℕ} → Names a j → lineAt m j .mode ≡ 1 → lineAt m j .due ≡ 0 → noMore (m .parks) ≡ false → Explained m a (park j size) (did-park j (imageOf (numberNow (m .parks)) (shown (lineAt m j))))
   was-resume : {j size : ℕ} {image : List ℕ} → Names a j → holds (m .parks) (imageNumber image) ≡ true
       → Explained m a (resume j (based (imageLine image)) (imageNumber image) size) (did-resume j image)
   was-close : {j size : ℕ} → Names a j → Explained m a (put j idle size) (did-close j)
+  was-change : {j p size : ℕ} {key iv : List ℕ} → Names a j → lineAt m j .mode ≡ 1 → lineAt m j .due ≡ 0 → lineAt m j .pos ≤ p →
+      Explained m a (change j p (streamOf (lineAt m j .cipher) key iv) size) (did-change j p key iv)
 
 module _ (m : Machine) (a : Call) where
   abbrev made : Effect → Made
@@ -55,23 +57,32 @@ module _ (m : Machine) (a : Call) where
   names : (c : Command) → Has (a .command) c → Names a (lineOf c)
   names c h = record { below = h .line; named = h .named }
 
-  explains-effect : (c : Command) → Has (a .command) c → Passed c (public m) a → Explains (Run c) (effectOf c a)
+  explains-effect : (c : Command) → Has (a .command) c → Passed c (public m) a → Explains (Run c) (effectOf c (public m) a)
+  unfolding viewOf
   explains-effect (Tray i c k) h p = record { is = was-open (names (Tray i c k) h) }
   explains-effect (Own i c) h p = record { is = was-open (names (Own i c) h) }
   explains-effect (Crypt i n) h p =
       record {
         is =
-            subst (λ (y : List ℕ). Explained m a (effectOf (Crypt i n) a) (did-crypt i (take n (a .text)) y)) (sym (first (enciphered (lineAt m i) (take n (a .text)))))
+            subst (λ (y : List ℕ). Explained m a (effectOf (Crypt i n) (public m) a) (did-crypt i (take n (a .text)) y)) (sym (first (enciphered (lineAt m i) (take n (a .text)))))
             (was-crypt (names (Crypt i n) h) (ltb-false (length (a .text)) n (passed 11 p)));
       }
   explains-effect (Park i) h p =
       record {
         is =
-            subst (λ (y : List ℕ). Explained m a (effectOf (Park i) a) (did-park i y)) (sym (first (imageOf (numberNow (m .parks)) (shown (lineAt m i)))))
-            (was-park (names (Park i) h) (is-open m a i (passed 6 p)) (passed 15 p));
+            subst (λ (y : List ℕ). Explained m a (effectOf (Park i) (public m) a) (did-park i y)) (sym (first (imageOf (numberNow (m .parks)) (shown (lineAt m i)))))
+            (was-park (names (Park i) h) (is-open m a i (passed 6 p)) (none-due m a i (passed 17 p)) (passed 15 p));
       }
   explains-effect (Resume i) h p = record { is = was-resume (names (Resume i) h) (not-false _ (passed 14 p)) }
   explains-effect (Close i) h p = record { is = was-close (names (Close i) h) }
+  explains-effect (Change i k q) h p =
+      let key = keyField (operandsOf (Change i k q)) a in
+      let iv = ivField (operandsOf (Change i k q)) a in
+      record {
+        is =
+            subst (λ (c : ℕ). Explained m a (change i q (streamOf c key iv) (sizeOf (Change i k q))) (did-change i q key iv)) (sym (of-view m a i (λ v. v .cipher)))
+            (was-change (names (Change i k q) h) (is-open m a i (passed 6 p)) (none-due m a i (passed 17 p)) (not-below m a i q (passed 18 p)));
+      }
 
   explains-decoded : (d : Decoded) → ReadIn (a .command) d → Explains d (ofDecoded d (public m) a)
   explains-decoded (Refused k) (refused-in n) = explains-refusal (Refused k) k (not-zero k n)

@@ -13,7 +13,7 @@ use Rattle.words.specs.Lists.{All, more as more-words, Word, tab}
 use Rattle.words.specs.Word.{word}
 use Rattle.words.specs.Strings.{wordAt, bytesOf}
 use Rattle.machine.specs.Fields.{fieldBytes, numberAt, inFields, fieldsAt, spelt}
-use Rattle.machine.specs.Machine.{Line, imageWidths, imageOf, fieldsLine, imageLine, imageNumber}
+use Rattle.machine.specs.Machine.{zeros, Line, imageWidths, imageOf, fieldsLine, imageLine, imageNumber}
 
 -- ---- any widths
 
@@ -147,13 +147,15 @@ words-fit zero (x ∷ xs) e h = absurd (omega arith)
 words-fit (suc n) [] e h = absurd (omega arith)
 words-fit (suc n) (x ∷ xs) e (more-words p h) = more p (words-fit n xs (omega arith) h)
 
--- an open line whose fields can hold it
+-- an open line with nothing waiting whose fields can hold it
 pub record Sized (l : Line) : Type 0 where
   pub up : l .mode ≡ 1
   pub cipher : l .cipher < 2 ^ 8
   pub pos : l .n < 2 ^ 64
   pub full : length (l .words) ≡ stateWords
   pub words : All Word (l .words)
+  pub none-due : l .due ≡ 0
+  pub none-waits : l .waiting ≡ zeros
 
 image-fields : (k : ℕ) → Word k → (l : Line) → Sized l → fieldsAt imageWidths (imageOf k l) 0 ≡ l .cipher ∷ l .n ∷ k ∷ l .words
 unfolding imageOf
@@ -169,4 +171,4 @@ pub image-back : (k : ℕ) → Word k → (l : Line) → Sized l → imageLine (
 unfolding imageLine
 image-back k h l s =
     ap fieldsLine (image-fields k h l s)
-    ∙ (λ j. record { mode = sym (s .up) j; cipher = l .cipher; n = l .n; words = l .words })
+    ∙ (λ j. record { mode = sym (s .up) j; cipher = l .cipher; n = l .n; words = l .words; due = sym (s .none-due) j; waiting = sym (s .none-waits) j })

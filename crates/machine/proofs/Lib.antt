@@ -1,5 +1,6 @@
 pub mod Fields
 pub mod Parks
+pub mod Moves
 pub mod Lines
 pub mod Rows
 pub mod Simulation
@@ -9,6 +10,7 @@ pub mod Explained
 pub mod Streams
 pub mod OneStream
 pub mod Parking
+pub mod Counted
 pub mod Trunk
 pub mod Codes
 pub mod Deciphers

@@ -3,30 +3,26 @@
 use mathlib.Core.Path.{_≡_, refl, ap, sym, _∙_, subst}
 use mathlib.Core.Bool.{Bool, true, false}
 use mathlib.Core.List.{List, [], _∷_, _++_, append-assoc}
-use Prim.Native.Nat.{ℕ, zero, suc, _+_, _-_, _/_, _<_, _≤_}
-use native.Mathlib.Nat.{div-eq-of-lt}
+use Prim.Native.Nat.{ℕ, zero, suc, _+_, _<_, _≤_}
 use native.Mathlib.Omega.{arith}
 use lib.Dec.{eqb, leb, lit≤}
 use lib.ListN.{length, getD, set, length-set, replicate}
 use lib.Seq.{length-take-le, getD-set-same, getD-set-other}
 use borrow.Author.Tests.{eq-eqb, ne-eqb, leb-true}
-use Rattle.words.specs.Lists.{iter}
 use Rattle.words.specs.Tests.{pick}
-use Rattle.keystream.specs.Stream.{stateAt}
 use Rattle.ciphers.specs.Table.{cipherAt}
 use Rattle.words.proofs.Tests.{both-right}
-use Rattle.machine.specs.Machine.{Line, MLine, Machine, Seen, lineAt, idle, genOf, unitAt, stateOf, moved, shown, based, opened, limit, lastNumber, imageOf, imageLine, imageNumber, Call, Effect, refuse, put, crypt, park, resume, public, decide, perform, step, seen, shows, freshMachine, freshCard}
+use Rattle.machine.specs.Machine.{Line, MLine, Machine, Seen, lineAt, zeros, idle, plainLine, unitAt, stateOf, byteOf, shown, based, moved, changed, opened, streamOf, limit, imageOf, imageLine, imageNumber, Call, Effect, refuse, put, crypt, park, resume, change, public, decide, perform, step, seen, shows, freshMachine, freshCard}
 use Rattle.machine.specs.Parks.{Parks, freshParks, noMore, numberNow, parked, holds, taken}
-use Rattle.machine.specs.Logs.{Made, madeOf, machineRun, callsOf, cardAfter, lineOn, Did, did-nothing, did-open, did-crypt, did-park, did-resume, did-close, did, Log, begun, joined, noted, logAfter, logOf, standing}
-use Rattle.machine.specs.OneStream.{AllBytes, Streamed, GoesOn, On, Kept, Stands, OneStream, Takes, Counted}
-use Rattle.machine.proofs.Lines.{unit-pos, Good, good-idle, good-open, good-behind, shown-idle, shown-based, state-fit}
+use Rattle.machine.specs.Logs.{Made, madeOf, machineRun, callsOf, cardAfter, lineOn, Did, did-nothing, did-open, did-crypt, did-park, did-resume, did-close, did-change, did, Log, begun, noted, logAfter, logOf, standing}
+use Rattle.machine.specs.OneStream.{AllBytes, Streamed, GoesOn, On, Kept, Stands, OneStream}
+use Rattle.machine.proofs.Lines.{start-shown, Waits, none-waits, one-waits, Good, good-idle, good-open, good-behind, shown-idle, shown-based, state-fit}
 use Rattle.machine.proofs.Simulation.{GoodCard, good-get, step-good, fresh-good}
 use Rattle.machine.proofs.Parks.{number-word, Spent, spent-refused, taken-spent, taken-keeps, parked-keeps}
 use Rattle.machine.proofs.Fields.{Sized}
 use Rattle.machine.proofs.Images.{image-goes-on}
-use Rattle.machine.proofs.Explained.{Names, Explained, was-refused, was-open, was-crypt, was-park, was-resume, was-close, explained}
-use Rattle.machine.proofs.Codes.{code-small}
-use Rattle.machine.proofs.Streams.{Held, begun-held, effect-held, seen-at, held-streamed}
+use Rattle.machine.proofs.Explained.{Names, Explained, was-refused, was-open, was-crypt, was-park, was-resume, was-close, was-change, explained}
+use Rattle.machine.proofs.Streams.{bare, Held, held-here, standing-begun, idle-held, effect-held, seen-at, held-streamed}
 
 -- ---- a list that is the machine's, call by call
 
@@ -46,7 +42,7 @@ abbrev tail : List Made → List Made
 tail [] = []
 tail (x ∷ xs) = xs
 
-runs : (xs : List Made) (m : Machine) → xs ≡ machineRun m (callsOf xs) → Runs m xs
+pub runs : (xs : List Made) (m : Machine) → xs ≡ machineRun m (callsOf xs) → Runs m xs
 runs [] m e = tt
 runs (x ∷ xs) m e = (ap (headOr x) e, runs xs (step m (x .call) .machine) (ap tail e))
 
@@ -87,12 +83,13 @@ perform-eight m text (put i l size) = length-set (m .lines) i l
 perform-eight m text (crypt i n size) = length-set (m .lines) i _
 perform-eight m text (park i size) = length-set (m .lines) i idle
 perform-eight m text (resume i l k size) = length-set (m .lines) i l
+perform-eight m text (change i p s size) = length-set (m .lines) i _
 
 -- what a call of the list did, from the machine at its place
 pub explained-at : (m : Machine) (x : Made) → x ≡ madeOf (x .call) (shows (step m (x .call))) → Explained m (x .call) (decide (public m) (x .call)) (did x)
 explained-at m x e = subst (λ (y : Made). Explained m (x .call) (decide (public m) (x .call)) (did y)) (sym e) (explained m (x .call))
 
-reached : (xs : List Made) (m : Machine) (c : Seen) (g : ℕ → Log) → Reached m c g → Runs m xs → AllBytes xs →
+pub reached : (xs : List Made) (m : Machine) (c : Seen) (g : ℕ → Log) → Reached m c g → Runs m xs → AllBytes xs →
     Reached (machineAfter m xs) (cardAfter c xs) (λ i. logAfter i (g i) xs)
 unfolding step
 reached [] m c g r h b = r
@@ -109,8 +106,8 @@ reached (x ∷ xs) m c g r h b =
 pub fresh-seen : seen freshMachine ≡ freshCard
 fresh-seen = λ i. record { lines = replicate 8 (shown-idle i); parks = freshParks }
 
-reached-fresh : Reached freshMachine freshCard (λ i. begun idle)
-reached-fresh = record { good = fresh-good; eight = refl; card = sym fresh-seen; held = λ i. subst (λ (l : MLine). Held l (begun idle)) (sym (none 8 i)) (begun-held idle) }
+pub reached-fresh : Reached freshMachine freshCard (λ i. begun idle)
+reached-fresh = record { good = fresh-good; eight = refl; card = sym fresh-seen; held = λ i. subst (λ (l : MLine). Held l (begun idle)) (sym (none 8 i)) idle-held }
   where
     none : (k i : ℕ) → getD (replicate k idle) i idle ≡ idle
     none zero i = refl
@@ -119,13 +116,17 @@ reached-fresh = record { good = fresh-good; eight = refl; card = sym fresh-seen;
 
 -- ---- an open line is read back from its image
 
-pub sized : (l : MLine) → Good l → l .mode ≡ 1 → Sized (shown l)
+clear : (l : MLine) → Waits l → l .due ≡ 0 → l .waiting ≡ zeros
+clear l (none-waits d z) e = z
+clear l (one-waits a u f) e = absurd (omega (arith, a, e))
+
+pub sized : (l : MLine) → Good l → l .mode ≡ 1 → l .due ≡ 0 → Sized (shown l)
 unfolding shown
-sized l good-idle e = absurd (let z : _≡_ {A = ℕ} 0 1 = e in omega arith)
-sized l (good-open m c p b f) e =
-    let w = state-fit l (unitAt l) f in
+sized l good-idle e d = absurd (let z : _≡_ {A = ℕ} 0 1 = e in omega arith)
+sized l (good-open m c p b f w) e d =
+    let s = state-fit l (unitAt l) f in
     let k = leb-true (l .cipher) 6 (both-right (leb 1 (l .cipher)) (leb (l .cipher) 6) c) in
-    record { up = e; cipher = omega (arith, k); pos = omega (arith, p); full = w .full; words = w .words }
+    record { up = e; cipher = omega (arith, k); pos = omega (arith, p); full = s .full; words = s .words; none-due = d; none-waits = clear l w d }
 
 -- ---- one call, by what it did
 
@@ -133,6 +134,7 @@ pub record ParkWrote (m m' : Machine) (i : ℕ) (image : List ℕ) : Type 0 wher
   pub below : i < 8
   pub counted : m' .parks ≡ parked (m .parks) i
   pub up : lineAt m i .mode ≡ 1
+  pub none-due : lineAt m i .due ≡ 0
   pub left : noMore (m .parks) ≡ false
   pub is : image ≡ imageOf (numberNow (m .parks)) (shown (lineAt m i))
 
@@ -149,6 +151,7 @@ Tells m m' (did-crypt i input output) = lineAt m' i ≡ moved (lineAt m i) (leng
 Tells m m' (did-park i image) = ParkWrote m m' i image
 Tells m m' (did-resume i image) = ResumeTook m m' i image
 Tells m m' (did-close i) = lineAt m' i ≡ idle
+Tells m m' (did-change i p key iv) = lineAt m' i ≡ changed (lineAt m i) p (streamOf (lineAt m i .cipher) key iv)
 
 module _ (m : Machine) (eight : length (m .lines) ≡ 8) (a : Call) where
   set-at : (j : ℕ) (l : MLine) → Names a j → getD (set (m .lines) j l) j idle ≡ l
@@ -158,24 +161,18 @@ module _ (m : Machine) (eight : length (m .lines) ≡ 8) (a : Call) where
   tells (refuse k) did-nothing was-refused = tt
   tells (put j _ size) (did-open _ _ _ _) (was-open n) = set-at j _ n
   tells (crypt j k size) (did-crypt _ _ _) (was-crypt n h) = set-at j _ n ∙ ap (moved (lineAt m j)) (sym (length-take-le k (a .text) h))
-  tells (park j size) (did-park _ _) (was-park n h z) = record { below = n .below; counted = refl; up = h; left = z; is = refl }
+  tells (park j size) (did-park _ _) (was-park n h d z) = record { below = n .below; counted = refl; up = h; none-due = d; left = z; is = refl }
   tells (resume j _ k size) (did-resume _ _) (was-resume n h) = record { line = set-at j _ n; held = h; took = refl }
   tells (put j _ size) (did-close _) (was-close n) = set-at j idle n
+  tells (change j p _ size) (did-change _ _ _ _) (was-change n up d le) = set-at j _ n
 
   -- by what it did, known by an equation
   told : (e : Effect) (d : Did) → Explained m a e d → (d' : Did) → d ≡ d' → Tells m (perform m (a .text) e .machine) d'
   told e d x d' q = subst (Tells m (perform m (a .text) e .machine)) q (tells e d x)
 
-good-within : (l : MLine) → Good l → l .pos ≤ limit
-good-within l good-idle = lit≤ tt
-good-within l (good-open m c p b f) = p
-
-pub opened-shown : (c : ℕ) (key iv : List ℕ) → shown (opened c key iv) ≡ record { mode = 1; cipher = c; n = 0; words = cipherAt c .init key iv }
-unfolding shown opened stateOf stateAt iter unitAt
-opened-shown c key iv =
-    let d : 0 / genOf c .unit ≡ 0 = div-eq-of-lt (unit-pos c) in
-    let e : 0 / genOf c .unit - 0 ≡ 0 = omega (arith, d) in
-    λ j. record { mode = 1; cipher = c; n = 0; words = iter (e j) (genOf c .next) (cipherAt c .init key iv) }
+pub opened-shown : (c : ℕ) (key iv : List ℕ) → shown (opened c key iv) ≡ plainLine 1 c 0 (cipherAt c .init key iv)
+unfolding opened
+opened-shown c key iv = start-shown 1 c (cipherAt c .init key iv)
 
 -- a call that is not an accepted one on line i
 module _ (m : Machine) (a : Call) (i : ℕ) where
@@ -192,17 +189,19 @@ module _ (m : Machine) (a : Call) (i : ℕ) where
   other-line (refuse k) did-nothing was-refused f = refl
   other-line (put j _ size) (did-open _ _ _ _) (was-open n) f = kept j _ n (f refl)
   other-line (crypt j k size) (did-crypt _ _ _) (was-crypt n h) f = kept j _ n (f refl)
-  other-line (park j size) (did-park _ _) (was-park n h z) f = kept j idle n (f refl)
+  other-line (park j size) (did-park _ _) (was-park n h d z) f = kept j idle n (f refl)
   other-line (resume j _ k size) (did-resume _ _) (was-resume n h) f = kept j _ n (f refl)
   other-line (put j _ size) (did-close _) (was-close n) f = kept j idle n (f refl)
+  other-line (change j p _ size) (did-change _ _ _ _) (was-change n up d le) f = kept j _ n (f refl)
 
   other-log : (e : Effect) (d : Did) → Explained m a e d → Apart e → (g : Log) → noted i g d ≡ g
   other-log (refuse k) did-nothing was-refused f g = refl
   other-log (put j _ size) (did-open _ _ _ _) (was-open n) f g = no-note j _ g n (f refl)
   other-log (crypt j k size) (did-crypt _ _ _) (was-crypt n h) f g = no-note j _ g n (f refl)
-  other-log (park j size) (did-park _ _) (was-park n h z) f g = no-note j _ g n (f refl)
+  other-log (park j size) (did-park _ _) (was-park n h d z) f g = no-note j _ g n (f refl)
   other-log (resume j _ k size) (did-resume _ _) (was-resume n h) f g = no-note j _ g n (f refl)
   other-log (put j _ size) (did-close _) (was-close n) f g = no-note j _ g n (f refl)
+  other-log (change j p _ size) (did-change _ _ _ _) (was-change n up d le) f g = no-note j _ g n (f refl)
 
 -- ---- two calls of a list
 
@@ -233,6 +232,7 @@ module _ (P : Parks → Type 0) (by-park : (p : Parks) (i : ℕ) → P p → P (
   parks-step m text (crypt i n size) h = h
   parks-step m text (park i size) h = by-park (m .parks) i h
   parks-step m text (resume i l k size) h = by-resume (m .parks) k h
+  parks-step m text (change i p s size) h = h
 
   parks-after : (xs : List Made) (m : Machine) → P (m .parks) → P (machineAfter m xs .parks)
   unfolding step
@@ -282,7 +282,7 @@ module _ (xs : List Made) (is : xs ≡ machineRun freshMachine (callsOf xs)) (by
   told-at {before = before} {x = x} s d dx = let k = place s in told (machineAfter freshMachine before) (k .at .eight) (x .call) _ (did x) (k .did-is) d dx
 
   -- the line on the card after a call
-  line-after : (before : List Made) (x : Made) → Place before x → (i : ℕ) → lineOn (x .card) i ≡ shown (lineAt (step (machineAfter freshMachine before) (x .call) .machine) i)
+  pub line-after : (before : List Made) (x : Made) → Place before x → (i : ℕ) → lineOn (x .card) i ≡ shown (lineAt (step (machineAfter freshMachine before) (x .call) .machine) i)
   line-after before x k i = ap (λ (y : Made). lineOn (y .card) i) (k .run) ∙ seen-at (step (machineAfter freshMachine before) (x .call) .machine) i
 
   streams-at : (i : ℕ) → Streamed (lineOn (cardAfter freshCard xs) i) (logOf i xs)
@@ -292,7 +292,7 @@ module _ (xs : List Made) (is : xs ≡ machineRun freshMachine (callsOf xs)) (by
       (held-streamed (lineAt (machineAfter freshMachine xs) i) (logOf i xs) (r .held i))
 
   from-key-at : {before : List Made} {x : Made} → Stands before x xs → (i c : ℕ) (key iv : List ℕ) → did x ≡ did-open i c key iv →
-      lineOn (x .card) i ≡ record { mode = 1; cipher = c; n = 0; words = cipherAt c .init key iv }
+      lineOn (x .card) i ≡ plainLine 1 c 0 (cipherAt c .init key iv)
   unfolding step
   from-key-at {before = before} {x = x} s i c key iv dx =
       let k = place s in
@@ -307,16 +307,18 @@ module _ (xs : List Made) (is : xs ≡ machineRun freshMachine (callsOf xs)) (by
 
   goes-on-at : {before sofar : List Made} {p x : Made} → Stands sofar x xs → Stands before p sofar → (i j : ℕ) (image : List ℕ) →
       did p ≡ did-park i image → did x ≡ did-resume j image →
-      GoesOn (standing (logOf i before)) (logOf j (sofar ++ (x ∷ [])) .start)
+      GoesOn (standing (logOf i before)) (standing (logOf j (sofar ++ (x ∷ []))))
+  unfolding byteOf stateOf
   goes-on-at {before = before} {sofar = sofar} {x = x} s t i j image dp dx =
       let m = machineAfter freshMachine before in
       let k = place (stands-in s t) in
       let w = told-at (stands-in s t) (did-park i image) dp in
       let l = lineAt m i in
       let h = good-get (k .at .good .lines) i in
-      let g = image-goes-on l (good-behind l h) (sized l h (w .up)) (numberNow (m .parks)) (number-word (m .parks) (w .left)) image (w .is) in
-      subst (λ (y : Log). GoesOn (standing (logOf i before)) (y .start)) (sym (log-last j sofar x dx ∙ on-its-line j _ _))
-      (subst (λ (y : MLine). GoesOn y (based (imageLine image))) (k .at .held i .line) g)
+      let g = image-goes-on l (good-behind l h) (sized l h (w .up) (w .none-due)) (numberNow (m .parks)) (number-word (m .parks) (w .left)) image (w .is) in
+      let there : standing (logOf j (sofar ++ (x ∷ []))) ≡ based (imageLine image) = ap standing (log-last j sofar x dx ∙ on-its-line j _ _) ∙ standing-begun (based (imageLine image)) in
+      let g' : GoesOn (bare l) (based (imageLine image)) = record { mode = g .mode; cipher = g .cipher; position = g .position; bytes = g .bytes; states = g .states } in
+      subst (GoesOn (standing (logOf i before))) (sym there) (subst (λ (y : MLine). GoesOn y (based (imageLine image))) (sym (held-here l (logOf i before) (k .at .held i))) g')
 
   -- a number that was taken up is spent
   pub spent-at : {before sofar : List Made} {p x : Made} → Stands sofar x xs → (t : Stands before p sofar) (i : ℕ) (image : List ℕ) → did p ≡ did-resume i image →
@@ -350,37 +352,3 @@ module _ (xs : List Made) (is : xs ≡ machineRun freshMachine (callsOf xs)) (by
   pub machine-one-stream : OneStream xs
   machine-one-stream =
       record { machine-is = is; streams = streams-at; from-key = from-key-at; from-image = from-image-at; goes-on = goes-on-at; once = once-at; others = others-at }
-
-  -- ---- positions and codes
-
-  takes-at : {before : List Made} {x : Made} → Stands before x xs → (i : ℕ) (input output : List ℕ) → did x ≡ did-crypt i input output → Takes i before x input
-  unfolding step shown moved
-  takes-at {before = before} {x = x} s i input output dx =
-      let m = machineAfter freshMachine before in
-      let k = place s in
-      let here : lineOn (cardAfter freshCard before) i ≡ shown (lineAt m i) = ap (λ (c : Seen). lineOn c i) (k .at .card) ∙ seen-at m i in
-      let l : logOf i (before ++ (x ∷ [])) ≡ joined (logOf i before) input output = log-last i before x dx ∙ on-its-line i _ _ in
-      record {
-        begins = ap (λ (y : Line). y .n) here ∙ held-streamed (lineAt m i) (logOf i before) (k .at .held i) .position;
-        ends =
-            ap (λ (y : Line). y .n) (line-after before x k i)
-            ∙ ap (λ (y : MLine). y .pos) (told-at s (did-crypt i input output) dx)
-            ∙ ap (λ (y : Line). y .n + length input) (sym here);
-        since = ap (λ (g : Log). g .start) l;
-        inputs = ap (λ (g : Log). g .ins) l;
-      }
-
-  within-at : (i : ℕ) → lineOn (cardAfter freshCard xs) i .n ≤ limit
-  unfolding shown
-  within-at i =
-      let r = reached xs freshMachine freshCard (λ i. begun idle) reached-fresh (runs xs freshMachine is) bytes in
-      let e : lineOn (cardAfter freshCard xs) i ≡ shown (lineAt (machineAfter freshMachine xs) i) = ap (λ (c : Seen). lineOn c i) (r .card) ∙ seen-at (machineAfter freshMachine xs) i in
-      subst (λ (y : Line). y .n ≤ limit) (sym e) (good-within (lineAt (machineAfter freshMachine xs) i) (good-get (r .good .lines) i))
-
-  codes-at : {before : List Made} {x : Made} → Stands before x xs → x .code ≤ lastNumber
-  codes-at {before = before} {x = x} s =
-      let k = place s in
-      subst (λ (y : Made). y .code ≤ lastNumber) (sym (k .run)) (code-small (machineAfter freshMachine before) (x .call))
-
-  pub machine-counted : Counted xs
-  machine-counted = record { takes = takes-at; within = within-at; codes = codes-at }

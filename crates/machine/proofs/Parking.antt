@@ -9,19 +9,20 @@ use lib.Dec.{eqb}
 use lib.ListN.{getD}
 use borrow.Author.Tests.{eq-eqb}
 use Rattle.words.specs.Tests.{pick}
+use Rattle.words.proofs.Tests.{both-left}
 use Rattle.command.specs.declared.Command.the-variants.{Resume}
 use Rattle.command.specs.declared.Decoded.the-variants.{Run}
 use Rattle.command.specs.Decode.{decodeOf}
-use Rattle.machine.specs.Machine.{Line, MLine, Machine, Seen, lineAt, shown, imageIn, imageLine, imageNumber, openOk, Call, Effect, refuse, put, crypt, park, resume, View, viewOf, public, isIdle, refuseIf, effectOf, decided, decide, perform, step, freshMachine}
+use Rattle.machine.specs.Machine.{Line, MLine, Machine, Seen, lineAt, shown, imageIn, imageLine, imageNumber, imageOk, changeOk, openOk, Call, Effect, refuse, put, crypt, park, resume, change, View, viewOf, public, isIdle, refuseIf, effectOf, decided, decide, perform, step, freshMachine}
 use Rattle.machine.specs.Parks.{Parks, numberNow, parked, holds}
-use Rattle.machine.specs.Logs.{Made, machineRun, callsOf, lineOn, Did, did-nothing, did-open, did-crypt, did-park, did-resume, did-close, did}
+use Rattle.machine.specs.Logs.{Made, machineRun, callsOf, lineOn, Did, did-nothing, did-open, did-crypt, did-park, did-resume, did-close, did-change, did}
 use Rattle.machine.specs.OneStream.{AllBytes, Stands}
 use Rattle.machine.specs.Parking.{Brings, AllLeave, ParkedCalls}
 use Rattle.machine.proofs.Lines.{Good, open-is, good-ok}
 use Rattle.machine.proofs.Parks.{Spent, spent-refused, Own, parked-own, parked-keeps-own, taken-keeps-own, replaced-spent, now-held, held-holds, parked-other, taken-other, number-word}
 use Rattle.machine.proofs.Simulation.{good-get, view-get}
 use Rattle.machine.proofs.Fields.{image-back, number-back}
-use Rattle.machine.proofs.Explained.{Explained, was-refused, was-open, was-crypt, was-park, was-resume, was-close}
+use Rattle.machine.proofs.Explained.{Explained, was-refused, was-open, was-crypt, was-park, was-resume, was-close, was-change}
 use Rattle.machine.proofs.Streams.{seen-at}
 use Rattle.machine.proofs.OneStream.{Runs, machineAfter, machineNext, explained-at, sized, stands-in, later, parks-since, spent-since, place, runs-since, told-at, spent-at}
 
@@ -32,9 +33,10 @@ held-step : (m : Machine) (a : Call) (i n : ℕ) (e : Effect) (d : Did) → Expl
 held-step m a i n (refuse k) did-nothing was-refused f g h = h
 held-step m a i n (put j _ size) (did-open _ _ _ _) (was-open _) f g h = h
 held-step m a i n (crypt j k size) (did-crypt _ _ _) (was-crypt _ _) f g h = h
-held-step m a i n (park j size) (did-park _ image) (was-park _ _ _) f g h = parked-other (m .parks) j i (λ e. f image (ap (λ (y : ℕ). did-park y image) (sym e))) ∙ h
+held-step m a i n (park j size) (did-park _ image) (was-park _ _ _ _) f g h = parked-other (m .parks) j i (λ e. f image (ap (λ (y : ℕ). did-park y image) (sym e))) ∙ h
 held-step m a i n (resume j _ k size) (did-resume _ image) (was-resume _ _) f g h = taken-other (m .parks) (imageNumber image) i n (λ e. g j image refl e) h
 held-step m a i n (put j _ size) (did-close _) (was-close _) f g h = h
+held-step m a i n (change j p _ size) (did-change _ _ _ _) (was-change _ _ _ _) f g h = h
 
 held-after : (ys : List Made) (m : Machine) (i n : ℕ) → Runs m ys → AllLeave i n ys → getD (m .parks .held) i 0 ≡ n → getD (machineAfter m ys .parks .held) i 0 ≡ n
 unfolding step
@@ -45,20 +47,20 @@ held-after (y ∷ ys) m i n r l h =
 
 -- ---- a resume that is read, on an idle line, with a whole image
 
-resume-code : (m : Machine) (a : Call) (j : ℕ) → decodeOf (a .command) ≡ Run (Resume j) → lineAt m j .mode ≡ 0 → openOk (imageLine (imageIn (a .command))) ≡ true →
+resume-code : (m : Machine) (a : Call) (j : ℕ) → decodeOf (a .command) ≡ Run (Resume j) → lineAt m j .mode ≡ 0 → imageOk (imageLine (imageIn (a .command))) ≡ true →
     (h : Bool) → holds (m .parks) (imageNumber (imageIn (a .command))) ≡ h → step m a .outcome .code ≡ pick h 0 14
 unfolding step decide decided refuseIf viewOf
 resume-code m a j e free ok h held =
     let v : isIdle (public m) j ≡ true = ap (λ (v : View). eqb (v .mode) 0) (view-get (m .lines) j) ∙ eq-eqb (lineAt m j .mode) 0 free in
     rw (e, v, ok, held) (by h)
   where
-    by : (h : Bool) → perform m (a .text) (refuseIf (not h) 14 (effectOf (Resume j) a)) .outcome .code ≡ pick h 0 14
+    by : (h : Bool) → perform m (a .text) (refuseIf (not h) 14 (effectOf (Resume j) (public m) a)) .outcome .code ≡ pick h 0 14
     by true = refl
     by false = refl
 
-open-good : (l : MLine) → Good l → l .mode ≡ 1 → openOk (shown l) ≡ true
-unfolding shown
-open-good l g e = sym (open-is (shown l) e) ∙ good-ok l g
+open-good : (l : MLine) → Good l → l .mode ≡ 1 → imageOk (shown l) ≡ true
+unfolding shown openOk
+open-good l g e = both-left _ (changeOk (l .cipher) (l .pos) (l .due) (l .waiting)) (sym (open-is (shown l) e) ∙ good-ok l g)
 
 -- ---- the list
 
@@ -66,7 +68,7 @@ module _ (xs : List Made) (is : xs ≡ machineRun freshMachine (callsOf xs)) (by
   -- what an accepted park leaves: an image that is well formed, and its number, which its line and no other holds
   record Left (before : List Made) (p : Made) (i : ℕ) (image : List ℕ) : Type 0 where
     pub below : i < 8
-    pub whole : openOk (imageLine image) ≡ true
+    pub whole : imageOk (imageLine image) ≡ true
     pub here : getD (machineNext before p .parks .held) i 0 ≡ imageNumber image
     pub own : Own (machineNext before p .parks) i (imageNumber image)
 
@@ -77,20 +79,20 @@ module _ (xs : List Made) (is : xs ≡ machineRun freshMachine (callsOf xs)) (by
       let w = told-at xs is bytes s (did-park i image) dp in
       let l = lineAt m i in
       let g = good-get (k .at .good .lines) i in
-      let z = sized l g (w .up) in
+      let z = sized l g (w .up) (w .none-due) in
       let word = number-word (m .parks) (w .left) in
       let n : imageNumber image ≡ numberNow (m .parks) = ap imageNumber (w .is) ∙ number-back (numberNow (m .parks)) word (shown l) z in
       let a = w .below in
       let c = k .at .good .long in
       record {
         below = a;
-        whole = ap openOk (ap imageLine (w .is) ∙ image-back (numberNow (m .parks)) word (shown l) z) ∙ open-good l g (w .up);
+        whole = ap imageOk (ap imageLine (w .is) ∙ image-back (numberNow (m .parks)) word (shown l) z) ∙ open-good l g (w .up);
         here = ap (λ (y : Parks). getD (y .held) i 0) (w .counted) ∙ now-held (m .parks) i (omega (arith, a, c)) ∙ sym n;
         own = subst (λ (y : Parks). Own y i (imageNumber image)) (sym (w .counted)) (subst (Own (parked (m .parks) i) i) (sym n) (parked-own (m .parks) i (k .at .good .parks)));
       }
 
   -- an image that is brought back is answered by whether its number is held
-  answered : {sofar : List Made} {x : Made} → Stands sofar x xs → (j : ℕ) (image : List ℕ) → Brings j image sofar x → openOk (imageLine image) ≡ true →
+  answered : {sofar : List Made} {x : Made} → Stands sofar x xs → (j : ℕ) (image : List ℕ) → Brings j image sofar x → imageOk (imageLine image) ≡ true →
       (h : Bool) → holds (machineAfter freshMachine sofar .parks) (imageNumber image) ≡ h → x .code ≡ pick h 0 14
   unfolding shown
   answered {sofar = sofar} {x = x} s j image b ok h held =
@@ -98,7 +100,7 @@ module _ (xs : List Made) (is : xs ≡ machineRun freshMachine (callsOf xs)) (by
       let k = place xs is bytes s in
       let free : lineAt m j .mode ≡ 0 = ap (λ (y : Line). y .mode) (sym (seen-at m j)) ∙ ap (λ (c : Seen). lineOn c j .mode) (sym (k .at .card)) ∙ b .idle-line in
       ap (λ (y : Made). y .code) (k .run)
-      ∙ resume-code m (x .call) j (b .read-as) free (ap (λ (y : List ℕ). openOk (imageLine y)) (b .image-is) ∙ ok) h (ap (λ (y : List ℕ). holds (m .parks) (imageNumber y)) (b .image-is) ∙ held)
+      ∙ resume-code m (x .call) j (b .read-as) free (ap (λ (y : List ℕ). imageOk (imageLine y)) (b .image-is) ∙ ok) h (ap (λ (y : List ℕ). holds (m .parks) (imageNumber y)) (b .image-is) ∙ held)
 
   accepted-at : {before sofar : List Made} {p x : Made} → Stands sofar x xs → (t : Stands before p sofar) → (i j : ℕ) (image : List ℕ) → did p ≡ did-park i image →
       AllLeave i (imageNumber image) (t .after) → Brings j image sofar x → x .code ≡ 0

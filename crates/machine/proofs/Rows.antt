@@ -24,6 +24,6 @@ module _ (P : Effect → Type 0) (refused : (k : ℕ) → T (isNumber k) → P (
   row true k e z h = refused k z
   row false k e z h = h refl
 
-  pub decided-by : (c : Command) (v : Public) (a : Call) → (Passed c v a → P (effectOf c a)) → P (decided c v a)
+  pub decided-by : (c : Command) (v : Public) (a : Call) → (Passed c v a → P (effectOf c v a)) → P (decided c v a)
   unfolding decided
-  decided-by c v a h = by-rows P refuseIf isNumber row (rowsOf c v a) (effectOf c a) tt (λ p. h (record { all = p }))
+  decided-by c v a h = by-rows P refuseIf isNumber row (rowsOf c v a) (effectOf c v a) tt (λ p. h (record { all = p }))

@@ -1,7 +1,7 @@
 -- The card's step is the machine's, for every machine that a list of calls leads to: each effect does the same to a line and to the line that starts anew from what is seen of it, and keeps
 -- every line good.
 -- Assumes nothing.
-use mathlib.Core.Path.{_≡_, refl, ap, ap₂, sym, _∙_}
+use mathlib.Core.Path.{_≡_, refl, ap, ap₂, sym, _∙_, subst}
 use mathlib.Core.Bool.{Bool, true, false, not}
 use mathlib.Core.List.{List, [], _∷_, map}
 use Prim.Native.Nat.{ℕ, zero, suc, _+_, _*_, _≤_}
@@ -11,19 +11,23 @@ use borrow.Author.Tests.{ltb-false, eqb-true, not-false}
 use Rattle.words.specs.Tests.{pick}
 use Rattle.words.proofs.Ranges.{all-drop}
 use Rattle.ciphers.specs.Table.{isCipher, cipherAt, mugi}
+use Rattle.ciphers.specs.Fit.{Fit}
 use Rattle.ciphers.proofs.States.{all-take}
 use Rattle.words.proofs.Tests.{both-true}
+use Rattle.command.specs.Rows.{either}
+use Rattle.command.proofs.Rows.{either-left, either-right}
 use Rattle.command.specs.declared.Cipher.{Cipher}
 use Rattle.command.specs.declared.Cipher.the-variants.{Zuc, Rabbit, Snow128, Snow256, Kcipher2, Mugi}
 use Rattle.command.specs.declared.Command.{Command}
-use Rattle.command.specs.declared.Command.the-variants.{Tray, Own, Crypt, Park, Resume, Close}
+use Rattle.command.specs.declared.Command.the-variants.{Tray, Own, Crypt, Park, Resume, Close, Change}
 use Rattle.command.specs.declared.Decoded.{Decoded}
 use Rattle.command.specs.declared.Decoded.the-variants.{Run, Refused}
 use Rattle.command.specs.Decode.{decodeOf, numberOf, operandsOf}
-use Rattle.machine.specs.Machine.{Line, MLine, Machine, idle, shown, based, moved, enciphered, imageOf, lineAt, seen, back, lineCount, View, noView, viewOf, public, viewAt, isOpen, limit, keyIn, ivIn, Call, Effect, refuse, put, crypt, park, resume, effectOf, ofDecoded, decide, answer, perform, step, shows, cardStep, freshMachine}
+use Rattle.card_moves.specs.Moves.{positionOn}
+use Rattle.machine.specs.Machine.{Line, MLine, Machine, idle, shown, based, moved, enciphered, changed, imageOf, lineAt, seen, back, lineCount, View, noView, viewOf, public, viewAt, isOpen, waits, limit, keyField, ivField, streamOf, Call, Effect, refuse, put, crypt, park, resume, change, effectOf, ofDecoded, decide, answer, perform, step, shows, cardStep, freshMachine}
 use Rattle.machine.specs.Parks.{numberNow, parked, taken, parksOk}
 use Rattle.machine.specs.OneStream.{CallBytes}
-use Rattle.machine.proofs.Lines.{Good, good-idle, shown-idle, shown-based, all-ok, opened-good, resumed-good, moved-same, crypted-same, moved-good, good-behind}
+use Rattle.machine.proofs.Lines.{Good, good-idle, shown-idle, shown-based, all-ok, opened-good, resumed-good, stream-fit, moved-same, crypted-same, changed-same, moved-good, changed-good, good-behind}
 use Rattle.machine.proofs.Parks.{parked-ok, taken-ok, fresh-ok, parked-long, taken-long}
 use Rattle.machine.proofs.Rows.{Passed, passed, decided-by}
 
@@ -61,9 +65,10 @@ fresh-good = record { lines = eight 8; parks = fresh-ok; long = refl }
 pub data Fair (m : Machine) (a : Call) : Effect → Type 0 where
   fair-refuse : {k : ℕ} → Fair m a (refuse k)
   fair-put : {i : ℕ} {l : MLine} {size : ℕ} → Good l → Fair m a (put i l size)
-  fair-crypt : {i n size : ℕ} → lineAt m i .mode ≡ 1 → lineAt m i .pos + n ≤ limit → n ≤ length (a .text) → Fair m a (crypt i n size)
+  fair-crypt : {i n size : ℕ} → lineAt m i .mode ≡ 1 → positionOn (lineAt m i .pos) (lineAt m i .due) n ≤ limit → n ≤ length (a .text) → Fair m a (crypt i n size)
   fair-park : {i size : ℕ} → lineAt m i .mode ≡ 1 → Fair m a (park i size)
   fair-resume : {i : ℕ} {l : MLine} {k size : ℕ} → Good l → Fair m a (resume i l k size)
+  fair-change : {i p : ℕ} {s : List ℕ} {size : ℕ} → lineAt m i .mode ≡ 1 → lineAt m i .pos ≤ p → p ≤ limit → Fit (cipherAt (lineAt m i .cipher)) s → Fair m a (change i p s size)
 
 pub view-get : (ls : List MLine) (i : ℕ) → getD (map viewOf ls) i noView ≡ viewOf (getD ls i idle)
 unfolding viewOf
@@ -80,33 +85,60 @@ known Kcipher2 = refl
 known Mugi = refl
 
 module _ (m : Machine) (a : Call) where
+  -- what is public of a line is so of the line
+  pub of-view : {A : Type 0} (i : ℕ) (f : View → A) → f (viewAt (public m) i) ≡ f (viewOf (lineAt m i))
+  of-view i f = ap f (view-get (m .lines) i)
+
   pub is-open : (i : ℕ) → not (isOpen (public m) i) ≡ false → lineAt m i .mode ≡ 1
   unfolding viewOf
-  is-open i h = ap (λ (v : View). v .mode) (sym (view-get (m .lines) i)) ∙ eqb-true _ 1 (not-false _ h)
+  is-open i h = sym (of-view i (λ v. v .mode)) ∙ eqb-true _ 1 (not-false _ h)
 
-  in-limit : (i n : ℕ) → ltb limit (viewAt (public m) i .pos + n) ≡ false → lineAt m i .pos + n ≤ limit
+  pub none-due : (i : ℕ) → waits (public m) i ≡ false → lineAt m i .due ≡ 0
   unfolding viewOf
-  in-limit i n p = ltb-false limit (lineAt m i .pos + n) (ap (λ (v : View). ltb limit (v .pos + n)) (sym (view-get (m .lines) i)) ∙ p)
+  none-due i h = sym (of-view i (λ v. v .due)) ∙ eqb-true _ 0 (not-false _ h)
 
-  fair-effect : CallBytes a → (c : Command) → Passed c (public m) a → Fair m a (effectOf c a)
+  in-limit : (i n : ℕ) → ltb limit (positionOn (viewAt (public m) i .pos) (viewAt (public m) i .due) n) ≡ false → positionOn (lineAt m i .pos) (lineAt m i .due) n ≤ limit
+  unfolding viewOf
+  in-limit i n p = ltb-false limit _ (sym (of-view i (λ v. ltb limit (positionOn (v .pos) (v .due) n))) ∙ p)
+
+  -- a position that 18 lets pass
+  pub not-below : (i p : ℕ) → either (ltb p (viewAt (public m) i .pos)) (ltb limit p) ≡ false → lineAt m i .pos ≤ p
+  unfolding viewOf
+  not-below i p h = ltb-false p _ (sym (of-view i (λ v. ltb p (v .pos))) ∙ either-left (ltb p (viewAt (public m) i .pos)) (ltb limit p) h)
+
+  not-above : (i p : ℕ) → either (ltb p (viewAt (public m) i .pos)) (ltb limit p) ≡ false → p ≤ limit
+  not-above i p h = ltb-false limit p (either-right (ltb p (viewAt (public m) i .pos)) (ltb limit p) h)
+
+  fair-effect : CallBytes a → (c : Command) → Passed c (public m) a → Fair m a (effectOf c (public m) a)
+  unfolding viewOf
   fair-effect b (Tray i c k) p =
       fair-put
-      (opened-good (numberOf c) (keyIn (operandsOf (Tray i c k)) a) (ivIn (operandsOf (Tray i c k)) a) (known c)
+      (opened-good (numberOf c) _ _ (known c)
       (all-take (cipherAt (numberOf c) .key) (all-take 32 (all-drop (32 * k) (b .tray))))
       (all-take (cipherAt (numberOf c) .iv) (all-take 16 (all-drop 4 (b .command)))))
   fair-effect b (Own i c) p =
       fair-put
-      (opened-good (numberOf c) (keyIn (operandsOf (Own i c)) a) (ivIn (operandsOf (Own i c)) a) (known c)
+      (opened-good (numberOf c) _ _ (known c)
       (all-take (cipherAt (numberOf c) .key) (all-take 32 (all-drop 3 (b .command))))
       (all-take (cipherAt (numberOf c) .iv) (all-take 16 (all-drop 35 (b .command)))))
   fair-effect b (Crypt i n) p = fair-crypt (is-open i (passed 6 p)) (in-limit i n (passed 13 p)) (ltb-false (length (a .text)) n (passed 11 p))
   fair-effect b (Park i) p = fair-park (is-open i (passed 6 p))
   fair-effect b (Resume i) p = fair-resume (resumed-good (a .command) (b .command) (not-false _ (passed 8 p)))
   fair-effect b (Close i) p = fair-put good-idle
+  fair-effect b (Change i k q) p =
+      let o = operandsOf (Change i k q) in
+      fair-change (is-open i (passed 6 p)) (not-below i q (passed 18 p)) (not-above i q (passed 18 p))
+      (subst (λ (c : ℕ). Fit (cipherAt (lineAt m i .cipher)) (streamOf c (keyField o a) (ivField o a))) (sym (of-view i (λ v. v .cipher)))
+      (stream-fit (lineAt m i .cipher) (keyField o a) (ivField o a) (all-take 32 (all-drop (32 * k) (b .tray))) (all-take 16 (all-drop 3 (b .command)))))
 
   fair : CallBytes a → (d : Decoded) → Fair m a (ofDecoded d (public m) a)
   fair b (Refused k) = fair-refuse
   fair b (Run c) = decided-by (Fair m a) (λ k z. fair-refuse) c (public m) a (fair-effect b c)
+
+-- what a call was decided to do
+pub fair-step : (m : Machine) (a : Call) → CallBytes a → Fair m a (decide (public m) a)
+unfolding decide
+fair-step m a b = fair m a b (decodeOf (a .command))
 
 -- ---- lines, and the lines that start anew from what is seen of them
 
@@ -148,13 +180,18 @@ module _ (m : Machine) (good : GoodCard m) (a : Call) (b : CallBytes a) where
       let h = good-behind l (good-get (good .lines) i) in
       let g = get-same (m .lines) i in
       let s : shown (moved (lineAt (back (seen m)) i) n) ≡ shown (moved l n) = ap (λ (x : MLine). shown (moved x n)) g ∙ moved-same l h n in
-      let w = ap (λ (x : MLine). enciphered x (take n (a .text))) g ∙ crypted-same l h n (take n (a .text)) in
+      let w = ap (λ (x : MLine). enciphered x (take n (a .text))) g ∙ crypted-same l h (take n (a .text)) in
       λ j. record { outcome = answer 0 size n (w j); card = record { lines = set-same i (moved (lineAt (back (seen m)) i) n) (moved l n) s j; parks = m .parks } }
   perform-same (park i size) (fair-park p) =
       let k = numberNow (m .parks) in
       let w = ap (λ (x : MLine). imageOf k (shown x)) (get-same (m .lines) i) ∙ ap (imageOf k) (shown-based (shown (lineAt m i))) in
       λ j. record { outcome = answer 0 size 0 (w j); card = record { lines = set-same i idle idle refl j; parks = parked (m .parks) i } }
   perform-same (resume i l k size) (fair-resume f) = λ j. record { outcome = answer 0 size 0 []; card = record { lines = set-same i l l refl j; parks = taken (m .parks) k } }
+  perform-same (change i p s size) (fair-change up le lim fit) =
+      let l = lineAt m i in
+      let h = good-behind l (good-get (good .lines) i) in
+      let e : shown (changed (lineAt (back (seen m)) i) p s) ≡ shown (changed l p s) = ap (λ (x : MLine). shown (changed x p s)) (get-same (m .lines) i) ∙ changed-same l h p s in
+      λ j. record { outcome = answer 0 size 0 []; card = record { lines = set-same i (changed (lineAt (back (seen m)) i) p s) (changed l p s) e j; parks = m .parks } }
 
   perform-good : (e : Effect) → Fair m a e → GoodCard (perform m (a .text) e .machine)
   perform-good (refuse k) fair-refuse = good
@@ -162,6 +199,8 @@ module _ (m : Machine) (good : GoodCard m) (a : Call) (b : CallBytes a) where
   perform-good (crypt i n size) (fair-crypt p q r) = record { lines = good-set (good .lines) i (moved-good (lineAt m i) n (good-get (good .lines) i) p q); parks = good .parks; long = good .long }
   perform-good (park i size) (fair-park p) = record { lines = good-set (good .lines) i good-idle; parks = parked-ok (m .parks) i (good .parks); long = parked-long (m .parks) i ∙ good .long }
   perform-good (resume i l k size) (fair-resume f) = record { lines = good-set (good .lines) i f; parks = taken-ok (m .parks) k (good .parks); long = taken-long (m .parks) k ∙ good .long }
+  perform-good (change i p s size) (fair-change up le lim fit) =
+      record { lines = good-set (good .lines) i (changed-good (lineAt m i) p s (good-get (good .lines) i) up le lim fit); parks = good .parks; long = good .long }
 
   -- every line stays good, and the parks do
   pub step-good : GoodCard (step m a .machine)

@@ -4,11 +4,13 @@ use mathlib.Core.Path.{_≡_, refl, ap, ap₂, sym, _∙_}
 use mathlib.Core.List.{List, _∷_}
 use Rattle.machine.specs.Machine.{Machine, Seen, Shown, seen, shows, step, cardStep, freshMachine, freshCard}
 use Rattle.machine.specs.Logs.{Made, madeOf, machineRun, callsOf}
-use Rattle.machine.specs.OneStream.{AllBytes, OneStream, Counted}
+use Rattle.machine.specs.OneStream.{AllBytes, OneStream}
+use Rattle.machine.specs.Counted.{Counted}
 use Rattle.machine.specs.Parking.{ParkedCalls}
 use Rattle.machine.specs.Steps.{Steps, none, step as stepped}
 use Rattle.machine.proofs.Simulation.{GoodCard, step-same, step-good, fresh-good}
-use Rattle.machine.proofs.OneStream.{fresh-seen, machine-one-stream, machine-counted}
+use Rattle.machine.proofs.OneStream.{fresh-seen, machine-one-stream}
+use Rattle.machine.proofs.Counted.{machine-counted}
 use Rattle.machine.proofs.Parking.{machine-parked-calls}
 
 steps-are : {c : Seen} {xs : List Made} → Steps c xs → (m : Machine) → GoodCard m → c ≡ seen m → xs ≡ machineRun m (callsOf xs)
@@ -17,7 +19,8 @@ steps-are (stepped {c = c} {a = a} b t) m g e =
     let s : cardStep c a ≡ shows (step m a) = ap (λ (x : Seen). cardStep x a) e ∙ step-same m g a b in
     ap₂ _∷_ (ap (madeOf a) s) (steps-are t (step m a .machine) (step-good m g a b) (ap (λ (x : Shown). x .card) s))
 
-steps-bytes : {c : Seen} {xs : List Made} → Steps c xs → AllBytes xs
+-- The buffers that a key, an IV or an image was read from held bytes.
+pub steps-bytes : {c : Seen} {xs : List Made} → Steps c xs → AllBytes xs
 steps-bytes none = tt
 steps-bytes (stepped b t) = (b, steps-bytes t)
 

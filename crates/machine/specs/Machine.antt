@@ -1,50 +1,66 @@
--- The plain machine (document 01, "The card"): eight lines, each idle or with a cipher, a base state B, a base unit m and a position n, and its step for each command. A step is
--- `perform (decide ..)`: `decide` goes down the refusals in their order, by what is public of the lines, the command, key and image bytes that a check names, and the lengths of data and
+-- The plain machine (document 01, "The card"): eight lines, each idle or with a cipher, a base state B, a base unit m, a position n and a change of stream that may wait, and its step for each
+-- command. A step is `perform (decide ..)`: `decide` goes down the refusals in their order, by what is public of the lines, the command, key and image bytes that a check names, and the lengths of data and
 -- out; `perform` does what is left.
 -- Assumes nothing.
 use mathlib.Core.Bool.{Bool, true, false, not}
-use mathlib.Core.List.{List, [], _∷_, map}
-use Prim.Native.Nat.{ℕ, zero, suc, _+_, _*_, _/_, _%_, _^_}
+use mathlib.Core.List.{List, [], _∷_, _++_, map}
+use Prim.Native.Nat.{ℕ, zero, suc, _+_, _-_, _*_, _/_, _%_, _^_}
 use lib.Dec.{ltb, leb, eqb}
 use lib.ListN.{length, getD, take, drop, set, replicate}
 pub use Rattle.card_sizes.specs.Sizes.{imageLength, lineCount, limit}
 use Rattle.card_sizes.specs.Sizes.{keyLength, ivLength, ownKey, resumeImage}
 use Rattle.words.specs.Tests.{both, pick}
+use Rattle.card_moves.specs.Moves.{comesDue, positionOn}
 use Rattle.keystream.specs.Stream.{Gen, stateAt, byteAt, xorFrom}
 use Rattle.ciphers.specs.States.{stateWords}
 use Rattle.ciphers.specs.Table.{cipherAt, isCipher, allZero}
 use Rattle.command.specs.declared.Command.{Command}
-use Rattle.command.specs.declared.Command.the-variants.{Tray, Own, Crypt, Park, Resume, Close}
+use Rattle.command.specs.declared.Command.the-variants.{Tray, Own, Crypt, Park, Resume, Close, Change}
 use Rattle.command.specs.declared.Decoded.{Decoded}
 use Rattle.command.specs.declared.Decoded.the-variants.{Run, Refused}
 pub use Rattle.command.specs.Rows.{lastNumber, trayOk}
-use Rattle.command.specs.Rows.{Row, _when_, unless, among}
+use Rattle.command.specs.Rows.{Row, _when_, unless, either, among}
 use Rattle.command.specs.Decode.{decodeOf, Operands, operandsOf, sizeOf}
 use Rattle.machine.specs.Fields.{inFields, fieldsAt}
 use Rattle.machine.specs.Parks.{Parks, freshParks, noMore, numberNow, parked, holds, taken, parksOk}
 
 -- ---- lines
 
--- What is seen of a line: its mode (0 idle, 1 open), and if it is open its cipher's number, its position n, and S(n div u), the state that byte n is read from, as words; else zeros.
+-- What is seen of a line: its mode (0 idle, 1 open), and if it is open its cipher's number, its position n, and S(n div u), the state that byte n is read from, as words; and of a change that
+-- waits its position and its stream's S(0). Zeros where there is none.
 pub record Line : Type 0 where
   pub mode : ℕ
   pub cipher : ℕ
   pub n : ℕ
   pub words : List ℕ
+  pub due : ℕ
+  pub waiting : List ℕ
 
--- a mode (0 idle, 1 open), a cipher, document 01's base state B, base unit m and position n
+-- a mode (0 idle, 1 open), a cipher, document 01's base state B, base unit m and position n; and the position of a change that waits, 0 for none, with its stream's S(0)
 pub record MLine : Type 0 where
   pub mode : ℕ
   pub cipher : ℕ
   pub base : List ℕ
   pub from : ℕ
   pub pos : ℕ
+  pub due : ℕ
+  pub waiting : List ℕ
 
 abbrev pub zeros : List ℕ
 zeros = replicate stateWords 0
 
+-- lines with nothing waiting
+abbrev pub plain : (mode cipher : ℕ) (base : List ℕ) (from pos : ℕ) → MLine
+plain mode c base from pos = record { mode = mode; cipher = c; base = base; from = from; pos = pos; due = 0; waiting = zeros }
+
+abbrev pub plainLine : (mode cipher n : ℕ) (words : List ℕ) → Line
+plainLine mode c n words = record { mode = mode; cipher = c; n = n; words = words; due = 0; waiting = zeros }
+
 abbrev pub idle : MLine
-idle = record { mode = 0; cipher = 0; base = zeros; from = 0; pos = 0 }
+idle = plain 0 0 zeros 0 0
+
+abbrev pub idleLine : Line
+idleLine = plainLine 0 0 0 zeros
 
 -- the generator of a line, and the unit that its position is in
 abbrev pub genOf : ℕ → Gen (List ℕ)
@@ -56,33 +72,56 @@ genAt l = genOf (l .cipher)
 unfoldable pub unitAt : MLine → ℕ
 unitAt l = l .pos / genAt l .unit
 
--- the line's S(i): Next applied i - m times to B
+-- the line's S(i), in the stream that it is in: Next applied i - m times to B
 unfoldable pub stateOf : MLine → ℕ → List ℕ
 stateOf l = stateAt (genAt l) (l .base) (l .from)
 
--- the line's keystream byte j: byte j mod u of Strm (S(j div u))
+-- and its keystream byte j: byte j mod u of Strm (S(j div u))
 unfoldable pub byteOf : MLine → ℕ → ℕ
 byteOf l = byteAt (genAt l) (l .base) (l .from)
 
--- what is seen of a line: its mode, its cipher, n and S(n div u)
+-- what is seen of a line: its mode, its cipher, n and S(n div u), and the change that waits
 unfoldable pub shown : MLine → Line
-shown l = record { mode = l .mode; cipher = l .cipher; n = l .pos; words = stateOf l (unitAt l) }
+shown l = record { mode = l .mode; cipher = l .cipher; n = l .pos; words = stateOf l (unitAt l); due = l .due; waiting = l .waiting }
 
 -- the line that starts from what is seen of it
 unfoldable pub based : Line → MLine
-based l = record { mode = l .mode; cipher = l .cipher; base = l .words; from = l .n / genOf (l .cipher) .unit; pos = l .n }
-
--- a text, each byte XORed with the line's keystream byte of its position, the first at n
-unfoldable pub enciphered : MLine → List ℕ → List ℕ
-enciphered l text = xorFrom (byteOf l) (l .pos) text
-
--- the line k bytes on
-unfoldable pub moved : MLine → ℕ → MLine
-moved l k = record { mode = l .mode; cipher = l .cipher; base = l .base; from = l .from; pos = l .pos + k }
+based l = record { mode = l .mode; cipher = l .cipher; base = l .words; from = l .n / genOf (l .cipher) .unit; pos = l .n; due = l .due; waiting = l .waiting }
 
 -- a line that is opened: B = S(0), m = 0, n = 0
 unfoldable pub opened : ℕ → List ℕ → List ℕ → MLine
-opened c key iv = record { mode = 1; cipher = c; base = cipherAt c .init key iv; from = 0; pos = 0 }
+opened c key iv = plain 1 c (cipherAt c .init key iv) 0 0
+
+-- ---- a line that moves on, past a change that waits
+
+-- k bytes on in the stream that the line is in
+unfoldable pub along : MLine → ℕ → MLine
+along l k = record { mode = l .mode; cipher = l .cipher; base = l .base; from = l .from; pos = l .pos + k; due = l .due; waiting = l .waiting }
+
+-- at the start of a new stream of the same cipher: B = S(0), m = 0, n = 0
+unfoldable pub renewed : MLine → List ℕ → MLine
+renewed l s = plain (l .mode) (l .cipher) s 0 0
+
+-- the line k bytes on: past the change where it comes due, the bytes after it on in the new stream
+unfoldable pub moved : MLine → ℕ → MLine
+moved l k = pick (comesDue (l .pos) (l .due) k) (along (renewed l (l .waiting)) (l .pos + k - l .due)) (along l k)
+
+-- a text, each byte XORed with the keystream byte of its position in the stream that the line is in, the first at n
+unfoldable pub xored : MLine → List ℕ → List ℕ
+xored l text = xorFrom (byteOf l) (l .pos) text
+
+-- a text: up to the change the old stream, and the new one after it
+unfoldable pub enciphered : MLine → List ℕ → List ℕ
+enciphered l text =
+    pick (comesDue (l .pos) (l .due) (length text))
+    (xored l (take (l .due - l .pos) text) ++ xored (renewed l (l .waiting)) (drop (l .due - l .pos) text))
+    (xored l text)
+
+-- a line that is to change at position p to the stream of S(0) s: at once where it is there, else the change waits
+unfoldable pub changed : MLine → ℕ → List ℕ → MLine
+changed l p s =
+    pick (eqb p (l .pos)) (renewed l s)
+    (record { mode = l .mode; cipher = l .cipher; base = l .base; from = l .from; pos = l .pos; due = p; waiting = s })
 
 -- ---- images: a field of 1 byte for the cipher, one of 8 for n, one of 4 for the park's number, and one of 4 for each of the state's words with the zeros after them
 
@@ -95,7 +134,7 @@ imageOf k l = inFields imageWidths (l .cipher ∷ l .n ∷ k ∷ l .words)
 
 -- the open line that an image holds
 abbrev pub fieldsLine : List ℕ → Line
-fieldsLine xs = record { mode = 1; cipher = getD xs 0 0; n = getD xs 1 0; words = drop 3 xs }
+fieldsLine xs = plainLine 1 (getD xs 0 0) (getD xs 1 0) (drop 3 xs)
 
 unfoldable pub imageLine : List ℕ → Line
 imageLine img = fieldsLine (fieldsAt imageWidths img 0)
@@ -110,19 +149,26 @@ imageIn command = take imageLength (drop resumeImage command)
 
 -- ---- what numbers 8 and 255 ask
 
--- an image, or an open line: its cipher, n, and its state with the zeros after it
+-- of an image or an open line: its cipher, n, and its state with the zeros after it
+unfoldable pub stateOk : (c n : ℕ) → List ℕ → Bool
+stateOk c n w = both (isCipher c) (both (leb n limit) (cipherAt c .admits w))
+
+abbrev pub imageOk : Line → Bool
+imageOk l = stateOk (l .cipher) (l .n) (l .words)
+
+-- nothing waits on a line of cipher c at n, or a change above n with an S(0) that an image may have at its position
+unfoldable pub changeOk : (c n due : ℕ) → List ℕ → Bool
+changeOk c n due w = pick (eqb due 0) (allZero w) (both (ltb n due) (stateOk c due w))
+
 unfoldable pub openOk : Line → Bool
-openOk l = both (isCipher (l .cipher)) (both (leb (l .n) limit) (cipherAt (l .cipher) .admits (l .words)))
+openOk l = both (imageOk l) (changeOk (l .cipher) (l .n) (l .due) (l .waiting))
 
 -- an idle line as on a fresh card
 unfoldable pub idleOk : Line → Bool
-idleOk l = both (eqb (l .cipher) 0) (both (eqb (l .n) 0) (allZero (l .words)))
+idleOk l = both (eqb (l .cipher) 0) (both (eqb (l .n) 0) (both (allZero (l .words)) (both (eqb (l .due) 0) (allZero (l .waiting)))))
 
 unfoldable pub lineOk : Line → Bool
 lineOk l = pick (eqb (l .mode) 0) (idleOk l) (both (eqb (l .mode) 1) (openOk l))
-
-abbrev pub idleLine : Line
-idleLine = record { mode = 0; cipher = 0; n = 0; words = zeros }
 
 -- ---- a call, and what it gives
 
@@ -185,17 +231,18 @@ allOk (suc k) ls = both (allOk k ls) (lineOk (getD ls k idleLine))
 abbrev pub cardOk : Seen → Bool
 cardOk c = both (allOk lineCount (c .lines)) (parksOk (c .parks))
 
--- of a line its mode, its cipher and its position are public, and the parks are
+-- of a line its mode, its cipher, its position and that of a change that waits are public, and the parks are
 pub record View : Type 0 where
   pub mode : ℕ
   pub cipher : ℕ
   pub pos : ℕ
+  pub due : ℕ
 
 abbrev pub noView : View
-noView = record { mode = 0; cipher = 0; pos = 0 }
+noView = record { mode = 0; cipher = 0; pos = 0; due = 0 }
 
 unfoldable pub viewOf : MLine → View
-viewOf l = record { mode = l .mode; cipher = l .cipher; pos = l .pos }
+viewOf l = record { mode = l .mode; cipher = l .cipher; pos = l .pos; due = l .due }
 
 pub record Public : Type 0 where
   pub lines : List View
@@ -213,14 +260,17 @@ isIdle v i = eqb (viewAt v i .mode) 0
 abbrev pub isOpen : Public → ℕ → Bool
 isOpen v i = eqb (viewAt v i .mode) 1
 
+abbrev pub waits : Public → ℕ → Bool
+waits v i = not (eqb (viewAt v i .due) 0)
+
 -- ---- a command's key and IV
 
--- 01; 01 or 02; 03
+-- 01 or 07; 01, 02 or 07; 03
 abbrev pub fromTray : Operands → Bool
-fromTray o = eqb (o .kind) 1
+fromTray o = among (1 ∷ 7 ∷ []) (o .kind)
 
-abbrev pub opens : Operands → Bool
-opens o = among (1 ∷ 2 ∷ []) (o .kind)
+abbrev pub takesKey : Operands → Bool
+takesKey o = among (1 ∷ 2 ∷ 7 ∷ []) (o .kind)
 
 abbrev pub crypts : Operands → Bool
 crypts o = eqb (o .kind) 3
@@ -229,16 +279,25 @@ crypts o = eqb (o .kind) 3
 abbrev pub keyField : Operands → Call → List ℕ
 keyField o a =
     pick (fromTray o) (take keyLength (drop (keyLength * o .keyNumber) (a .tray)))
-    (pick (opens o) (take keyLength (drop ownKey (a .command))) [])
+    (pick (eqb (o .kind) 2) (take keyLength (drop ownKey (a .command))) [])
 
 abbrev pub ivField : Operands → Call → List ℕ
-ivField o a = pick (opens o) (take ivLength (drop (o .ivAt) (a .command))) []
+ivField o a = pick (takesKey o) (take ivLength (drop (o .ivAt) (a .command))) []
 
-abbrev pub keyIn : Operands → Call → List ℕ
-keyIn o a = take (cipherAt (o .cipher) .key) (keyField o a)
+-- the bytes of a key and of an IV that cipher c takes
+abbrev pub keyFor : ℕ → List ℕ → List ℕ
+keyFor c key = take (cipherAt c .key) key
 
-abbrev pub ivIn : Operands → Call → List ℕ
-ivIn o a = take (cipherAt (o .cipher) .iv) (ivField o a)
+abbrev pub ivFor : ℕ → List ℕ → List ℕ
+ivFor c iv = take (cipherAt c .iv) iv
+
+-- S(0) of cipher c, of the bytes that it takes of a key and an IV
+abbrev pub streamOf : ℕ → List ℕ → List ℕ → List ℕ
+streamOf c key iv = cipherAt c .init (keyFor c key) (ivFor c iv)
+
+-- the cipher of a command's key and IV: the one that it names, and of 07 its line's
+abbrev pub cipherFor : Operands → Public → ℕ
+cipherFor o v = pick (eqb (o .kind) 7) (viewAt v (o .line) .cipher) (o .cipher)
 
 -- a byte beyond the cipher's length is not 0
 unfoldable pub spareUsed : ℕ → List ℕ → List ℕ → Bool
@@ -246,17 +305,19 @@ spareUsed c key iv = not (both (allZero (drop (cipherAt c .key) key)) (allZero (
 
 -- the key is all zero in the cipher's own length
 unfoldable pub blankKey : ℕ → List ℕ → Bool
-blankKey c key = allZero (take (cipherAt c .key) key)
+blankKey c key = allZero (keyFor c key)
 
 -- ---- what is to be done
 
--- a refusal; a line put in the place of line i; count bytes crypted on line i; line i parked; a line put in the place of line i that takes up park k; each with the bytes of the command
+-- a refusal; a line put in the place of line i; count bytes crypted on line i; line i parked; a line put in the place of line i that takes up park k; line i that is to change at position p to
+-- the stream of S(0) s; each with the bytes of the command
 pub data Effect : Type 0 where
   refuse : ℕ → Effect
   put : (i : ℕ) (l : MLine) (size : ℕ) → Effect
   crypt : (i count size : ℕ) → Effect
   park : (i size : ℕ) → Effect
   resume : (i : ℕ) (l : MLine) (k size : ℕ) → Effect
+  change : (i p : ℕ) (s : List ℕ) (size : ℕ) → Effect
 
 unfoldable pub refuseIf : Bool → ℕ → Effect → Effect
 refuseIf true k e = refuse k
@@ -264,15 +325,16 @@ refuseIf false k e = e
 
 -- the line that an open puts
 abbrev pub openedBy : Operands → Call → MLine
-openedBy o a = opened (o .cipher) (keyIn o a) (ivIn o a)
+openedBy o a = opened (o .cipher) (keyFor (o .cipher) (keyField o a)) (ivFor (o .cipher) (ivField o a))
 
-abbrev pub effectOf : Command → Call → Effect
-effectOf (Tray i c k) a = put i (openedBy (operandsOf (Tray i c k)) a) (sizeOf (Tray i c k))
-effectOf (Own i c) a = put i (openedBy (operandsOf (Own i c)) a) (sizeOf (Own i c))
-effectOf (Crypt i n) a = crypt i n (sizeOf (Crypt i n))
-effectOf (Park i) a = park i (sizeOf (Park i))
-effectOf (Resume i) a = resume i (based (imageLine (imageIn (a .command)))) (imageNumber (imageIn (a .command))) (sizeOf (Resume i))
-effectOf (Close i) a = put i idle (sizeOf (Close i))
+abbrev pub effectOf : Command → Public → Call → Effect
+effectOf (Tray i c k) v a = put i (openedBy (operandsOf (Tray i c k)) a) (sizeOf (Tray i c k))
+effectOf (Own i c) v a = put i (openedBy (operandsOf (Own i c)) a) (sizeOf (Own i c))
+effectOf (Crypt i n) v a = crypt i n (sizeOf (Crypt i n))
+effectOf (Park i) v a = park i (sizeOf (Park i))
+effectOf (Resume i) v a = resume i (based (imageLine (imageIn (a .command)))) (imageNumber (imageIn (a .command))) (sizeOf (Resume i))
+effectOf (Close i) v a = put i idle (sizeOf (Close i))
+effectOf (Change i k p) v a = change i p (streamOf (cipherFor (operandsOf (Change i k p)) v) (keyField (operandsOf (Change i k p)) a) (ivField (operandsOf (Change i k p)) a)) (sizeOf (Change i k p))
 
 -- All that a decision reads of a call: three lengths, whether a byte of the key or the IV beyond the cipher's length is not 0, whether the key is all zero within it, and the image that
 -- a resume brings; no byte of data, and nothing else of a key or an IV within the cipher's lengths.
@@ -284,14 +346,14 @@ pub record Facts : Type 0 where
   pub blank : Bool
   pub image : List ℕ
 
-abbrev pub factsOf : Operands → Call → Facts
-factsOf o a =
+abbrev pub factsOf : Operands → Public → Call → Facts
+factsOf o v a =
     record {
       trayCount = length (a .tray);
       textCount = length (a .text);
       outCount = length (a .out);
-      spare = spareUsed (o .cipher) (keyField o a) (ivField o a);
-      blank = blankKey (o .cipher) (keyField o a);
+      spare = spareUsed (cipherFor o v) (keyField o a) (ivField o a);
+      blank = blankKey (cipherFor o v) (keyField o a);
       image = pick (eqb (o .kind) 5) (imageIn (a .command)) [];
     }
 
@@ -300,8 +362,12 @@ abbrev pub refusals : Operands → Public → Facts → List Row
 refusals o v f =
     -- open or resume on an open line
     (5 when both (among (1 ∷ 2 ∷ 5 ∷ []) (o .kind)) (not (isIdle v (o .line))))
-    -- crypt, park or close on an idle one
-    ∷ (6 when both (among (3 ∷ 4 ∷ 6 ∷ []) (o .kind)) (not (isOpen v (o .line))))
+    -- crypt, park, close or change on an idle one
+    ∷ (6 when both (among (3 ∷ 4 ∷ 6 ∷ 7 ∷ []) (o .kind)) (not (isOpen v (o .line))))
+    -- park or change where a change waits
+    ∷ (17 when both (among (4 ∷ 7 ∷ []) (o .kind)) (waits v (o .line)))
+    -- a change below the line's position or above 2^36
+    ∷ (18 when both (eqb (o .kind) 7) (either (ltb (o .position) (viewAt v (o .line) .pos)) (ltb limit (o .position))))
     -- no park is left
     ∷ (15 when both (eqb (o .kind) 4) (noMore (v .parks)))
     -- tray length not a multiple of 32, or over 8,192
@@ -309,15 +375,15 @@ refusals o v f =
     -- key number not in it
     ∷ (10 when both (fromTray o) (ltb (f .trayCount) (keyLength * o .keyNumber + keyLength)))
     -- a key or IV byte beyond the cipher's length is not 0
-    ∷ (7 when both (opens o) (f .spare))
+    ∷ (7 when both (takesKey o) (f .spare))
     -- key all zero
-    ∷ (16 when both (opens o) (f .blank))
+    ∷ (16 when both (takesKey o) (f .blank))
     -- image: cipher, n, padding, ZUC cell, Rabbit carry
-    ∷ (8 when both (eqb (o .kind) 5) (not (openOk (imageLine (f .image)))))
+    ∷ (8 when both (eqb (o .kind) 5) (not (imageOk (imageLine (f .image)))))
     -- park number not held
     ∷ (14 when both (eqb (o .kind) 5) (not (holds (v .parks) (imageNumber (f .image)))))
-    -- n + count over 2^36
-    ∷ (13 when both (crypts o) (ltb limit (viewAt v (o .line) .pos + o .count)))
+    -- the position after it, in the stream that the line is in then, over 2^36
+    ∷ (13 when both (crypts o) (ltb limit (positionOn (viewAt v (o .line) .pos) (viewAt v (o .line) .due) (o .count))))
     -- data shorter than count
     ∷ (11 when both (crypts o) (ltb (f .textCount) (o .count)))
     -- out shorter than count, or than an image
@@ -326,10 +392,10 @@ refusals o v f =
 
 -- the rows that a command meets in a call, and what is left where it passes them
 abbrev pub rowsOf : Command → Public → Call → List Row
-rowsOf c v a = refusals (operandsOf c) v (factsOf (operandsOf c) a)
+rowsOf c v a = refusals (operandsOf c) v (factsOf (operandsOf c) v a)
 
 unfoldable pub decided : Command → Public → Call → Effect
-decided c v a = unless refuseIf (rowsOf c v a) (effectOf c a)
+decided c v a = unless refuseIf (rowsOf c v a) (effectOf c v a)
 
 abbrev pub ofDecoded : Decoded → Public → Call → Effect
 ofDecoded (Refused k) v a = refuse k
@@ -355,6 +421,7 @@ perform m text (crypt i n size) =
 perform m text (park i size) =
     record { machine = withParks (withLine m i idle) (parked (m .parks) i); outcome = answer 0 size 0 (imageOf (numberNow (m .parks)) (shown (lineAt m i))) }
 perform m text (resume i l k size) = record { machine = withParks (withLine m i l) (taken (m .parks) k); outcome = answer 0 size 0 [] }
+perform m text (change i p s size) = record { machine = withLine m i (changed (lineAt m i) p s); outcome = answer 0 size 0 [] }
 
 unfoldable pub step : Machine → Call → Stepped
 step m a = perform m (a .text) (decide (public m) a)

@@ -1,14 +1,14 @@
 -- Demand 3: what is claimed of every list of calls from a fresh card. Each line's joined outputs are its joined inputs XORed with one keystream.
 -- Assumes nothing.
-use Prim.Native.Nat.{ℕ, _+_, _/_, _≤_}
+use Prim.Native.Nat.{ℕ, _/_, _≤_}
 use mathlib.Core.List.{List, [], _∷_, _++_}
 use mathlib.Core.Path.{_≡_}
-use lib.ListN.{length, getD}
+use lib.ListN.{getD}
 use Rattle.words.specs.Lists.{All, Byte}
 use Rattle.keystream.specs.Stream.{xorFrom}
 use Rattle.ciphers.specs.Table.{cipherAt}
-use Rattle.machine.specs.Machine.{Line, MLine, Call, genOf, genAt, byteOf, stateOf, imageLine, imageNumber, limit, lastNumber, freshMachine, freshCard}
-use Rattle.machine.specs.Logs.{Made, machineRun, callsOf, cardAfter, lineOn, did, did-open, did-crypt, did-park, did-resume, Log, logOf, standing}
+use Rattle.machine.specs.Machine.{Line, MLine, Call, plainLine, genOf, genAt, byteOf, stateOf, imageLine, imageNumber, freshMachine, freshCard}
+use Rattle.machine.specs.Logs.{Made, machineRun, callsOf, cardAfter, lineOn, did, did-open, did-park, did-resume, Log, logOf, standing, keyByte}
 
 -- The buffers that a key, an IV or an image is read from hold bytes. The entries promise it of what they were lent.
 pub record CallBytes (a : Call) : Type 0 where
@@ -22,13 +22,14 @@ BytesIn (a ∷ more) = CallBytes a × BytesIn more
 abbrev pub AllBytes : List Made → Type 0
 AllBytes xs = BytesIn (callsOf xs)
 
--- A line, as it is seen, and its log: the outputs joined are the inputs joined, each byte XORed with the keystream byte of its position.
+-- A line, as it is seen, and its log: the outputs joined are the inputs joined, each byte XORed with the keystream byte of the newest stream that has begun there; the line's position counts
+-- from the beginning of that stream, and its state is the one from which that position's byte is read.
 pub record Streamed (l : Line) (g : Log) : Type 0 where
-  pub mode : l .mode ≡ g .start .mode
-  pub cipher : l .cipher ≡ g .start .cipher
-  pub position : l .n ≡ g .start .pos + length (g .ins)
-  pub state : l .words ≡ stateOf (g .start) (l .n / genOf (l .cipher) .unit)
-  pub outputs : g .outs ≡ xorFrom (byteOf (g .start)) (g .start .pos) (g .ins)
+  pub mode : l .mode ≡ standing g .mode
+  pub cipher : l .cipher ≡ standing g .cipher
+  pub position : l .n ≡ standing g .pos
+  pub state : l .words ≡ stateOf (standing g) (l .n / genOf (l .cipher) .unit)
+  pub outputs : g .outs ≡ xorFrom (keyByte g) 0 (g .ins)
 
 -- A line that begins where another stands: it goes on with that line's bytes, and their states.
 pub record GoesOn (l l' : MLine) : Type 0 where
@@ -61,34 +62,16 @@ pub record OneStream (xs : List Made) : Type 0 where
   pub streams : (i : ℕ) → Streamed (lineOn (cardAfter freshCard xs) i) (logOf i xs)
   -- an open begins at position 0, in S(0) of its cipher, key and IV
   pub from-key : {before : List Made} {x : Made} → Stands before x xs → (i c : ℕ) (key iv : List ℕ) → did x ≡ did-open i c key iv →
-      lineOn (x .card) i ≡ record { mode = 1; cipher = c; n = 0; words = cipherAt c .init key iv }
+      lineOn (x .card) i ≡ plainLine 1 c 0 (cipherAt c .init key iv)
   -- a resume begins at the cipher, the position and the state in its image, whatever image it is
   pub from-image : {before : List Made} {x : Made} → Stands before x xs → (j : ℕ) (image : List ℕ) → did x ≡ did-resume j image →
       lineOn (x .card) j ≡ imageLine image
   -- with an image that a park earlier in the list wrote it goes on from the byte where it was parked, on whichever line
   pub goes-on : {before sofar : List Made} {p x : Made} → Stands sofar x xs → Stands before p sofar → (i j : ℕ) (image : List ℕ) →
       did p ≡ did-park i image → did x ≡ did-resume j image →
-      GoesOn (standing (logOf i before)) (logOf j (sofar ++ (x ∷ [])) .start)
+      GoesOn (standing (logOf i before)) (standing (logOf j (sofar ++ (x ∷ []))))
   -- no two resumes take up the same park
   pub once : {before sofar : List Made} {p x : Made} → Stands sofar x xs → Stands before p sofar → (i j : ℕ) (image image' : List ℕ) →
       did p ≡ did-resume i image → did x ≡ did-resume j image' → imageNumber image ≡ imageNumber image' → ⊥
   -- a call on another line, or a refused one, changes neither a line's stream nor its position nor its state
   pub others : {before : List Made} {x : Made} → Stands before x xs → (i : ℕ) → (On i x → ⊥) → Kept i before x
-
--- ---- what follows for positions and codes
-
--- A crypt on line i takes the positions from where its line stands on, one for each byte of its input: they begin after those that the crypts since its line's open or resume took, and the
--- next crypt begins after them.
-pub record Takes (i : ℕ) (before : List Made) (x : Made) (input : List ℕ) : Type 0 where
-  pub begins : lineOn (cardAfter freshCard before) i .n ≡ logOf i before .start .pos + length (logOf i before .ins)
-  pub ends : lineOn (x .card) i .n ≡ lineOn (cardAfter freshCard before) i .n + length input
-  pub since : logOf i (before ++ (x ∷ [])) .start ≡ logOf i before .start
-  pub inputs : logOf i (before ++ (x ∷ [])) .ins ≡ logOf i before .ins ++ input
-
--- The list xs, from a fresh card: no position comes round, and no card is damaged.
-pub record Counted (xs : List Made) : Type 0 where
-  pub takes : {before : List Made} {x : Made} → Stands before x xs → (i : ℕ) (input output : List ℕ) → did x ≡ did-crypt i input output → Takes i before x input
-  -- after the list no line stands past 2^36
-  pub within : (i : ℕ) → lineOn (cardAfter freshCard xs) i .n ≤ limit
-  -- every code is 0 or a number from 1 to 16
-  pub codes : {before : List Made} {x : Made} → Stands before x xs → x .code ≤ lastNumber

@@ -10,10 +10,11 @@ use borrow.Author.Tests.{eqb-true, eqb-false}
 use Rattle.card_sizes.specs.Sizes.{cardSize}
 use Rattle.machine.specs.Machine.{Machine, Call, Seen, step, cardStep, freshMachine, freshCard}
 use Rattle.machine.specs.Logs.{Made, madeOf, callsOf}
-use Rattle.machine.specs.OneStream.{BytesIn, OneStream, Counted}
+use Rattle.machine.specs.OneStream.{BytesIn, AllBytes, OneStream}
+use Rattle.machine.specs.Counted.{Counted}
 use Rattle.machine.specs.Steps.{Steps, none as no-steps, step as one-step}
 use Rattle.machine.specs.Parking.{ParkedCalls}
-use Rattle.machine.proofs.Steps.{steps-one-stream, steps-counted, steps-parked-calls}
+use Rattle.machine.proofs.Steps.{steps-bytes, steps-one-stream, steps-counted, steps-parked-calls}
 use Rattle.card_layout.specs.Words.{cardIn}
 use Rattle.card_layout.proofs.Cards.{fresh-words}
 use Rattle.card_outcome.specs.declared.Outcome.{Outcome}
@@ -75,6 +76,10 @@ counted-on xs h = steps-counted xs (from-zeros h)
 
 pub parked-calls-on : (xs : List Made) → RanOn (replicate cardSize 0) xs → ParkedCalls xs
 parked-calls-on xs h = steps-parked-calls xs (from-zeros h)
+
+-- What the theorems on the two ends of a trunk ask of such a list beside it.
+pub run-bytes-on : (xs : List Made) → RanOn (replicate cardSize 0) xs → AllBytes xs
+run-bytes-on xs h = steps-bytes (from-zeros h)
 
 -- ---- a refusal, whatever was handed in
 

@@ -14,7 +14,8 @@ use Rattle.words.specs.Tests.{pick}
 use Rattle.words.proofs.Ranges.{all-drop}
 use Rattle.machine.specs.Machine.{Call, Seen, cardStep, freshCard}
 use Rattle.machine.specs.Logs.{Made}
-use Rattle.machine.specs.OneStream.{OneStream, Counted}
+use Rattle.machine.specs.OneStream.{OneStream}
+use Rattle.machine.specs.Counted.{Counted}
 use Rattle.machine.specs.Parking.{ParkedCalls}
 use Rattle.machine.specs.Steps.{Steps, none, step}
 use Rattle.machine.proofs.Steps.{steps-one-stream, steps-counted, steps-parked-calls}

@@ -83,9 +83,24 @@ impl Builder {
         (0..8).filter(|&line| self.machine.open(line).is_some()).collect()
     }
 
+    /// The cipher of an open line.
+    pub fn cipher(&self, line: u8) -> Option<u8> {
+        self.machine.open(line).map(|(cipher, _)| cipher)
+    }
+
     /// The position of an open line; 0 of an idle one.
     pub fn position(&self, line: u8) -> u64 {
         self.machine.open(line).map_or(0, |(_, position)| position)
+    }
+
+    /// The position of the change that waits on a line, if one does.
+    pub fn waiting(&self, line: u8) -> Option<u64> {
+        self.machine.waiting(line)
+    }
+
+    /// How many bytes can be taken through an open line before number 13.
+    pub fn line_left(&self, line: u8) -> usize {
+        usize::try_from(self.machine.left(line)).unwrap_or(usize::MAX)
     }
 
     /// The images that parks have written so far and that have this fate.

@@ -1,6 +1,7 @@
 //! Single calls, each with a command, tray, data and out of its own, and a comparison of any card that takes one call
 //! at a time. A refused call doesn't end a list of such calls.
 
+use crate::changes::Changes;
 use crate::command::{length, CRYPT, IMAGE, PARK};
 use crate::ledger::Ledger;
 use crate::machine::{Answer, Machine};
@@ -115,14 +116,16 @@ impl<C: Card> Subject for CallByCall<C> {
 }
 
 impl<C: Card> CallByCall<C> {
-    /// Makes calls on a card that begins as the machine does, which must hold no number.
+    /// Makes calls on a card that begins as the machine does, which must have no line open and hold no number.
     fn hold_calls(&mut self, mut machine: Machine, calls: impl IntoIterator<Item = OwnCall>) -> Result<Tally, String> {
         let (mut tally, mut ledger) = (Tally::default(), Ledger::after(machine.parks().made()));
+        let mut changes = Changes::default();
         self.card.begin(&machine);
         for (i, mut call) in calls.into_iter().enumerate() {
             let answer = hold_call(&mut machine, &mut self.card, &mut call);
             let answer = answer.map_err(|told| format!("call {}: {told}", i + 1))?;
             tally.note(&mut ledger, &call.command, &answer, &call.out);
+            tally.note_change(&mut changes, &call.command, &answer);
         }
         Ok(tally)
     }
@@ -206,7 +209,7 @@ mod tests {
     #[test]
     fn the_machine_agrees_with_itself_and_meets_every_code() {
         let tally = held(Machine::fresh()).unwrap();
-        assert!(tally.codes.iter().chain(&tally.resumes).all(|&count| count > 0), "{tally:?}");
+        assert!(tally.codes.iter().chain(&tally.resumes).chain(&tally.changes).all(|&count| count > 0), "{tally:?}");
     }
 
     #[test]
@@ -222,7 +225,7 @@ mod tests {
     #[test]
     fn a_word_left_behind_is_found() {
         let places = [
-            (words::COUNT - 1, "word 41 of line 7"),
+            (words::COUNT - 1, "word 81 of line 7"),
             (words::COUNT, "the count of parks"),
             (words::CARD - 1, "the number held for line 7"),
         ];

@@ -1,6 +1,7 @@
 //! The program `cardrun` as a subject: each list is written to a fresh folder, the program is run there, and what
 //! it prints and writes is held against the second implementation.
 
+use crate::changes::Changes;
 use crate::ledger::Ledger;
 use crate::lists::{self, List};
 use crate::named::Case;
@@ -58,9 +59,10 @@ impl Cardrun {
             fs::remove_dir_all(&folder).map_err(|error| format!("{}: {error}", folder.display()))?;
         }
         outcome?;
-        let (mut tally, mut ledger) = (Tally::default(), Ledger::default());
+        let (mut tally, mut ledger, mut changes) = (Tally::default(), Ledger::default(), Changes::default());
         for (call, answer, out) in run.written() {
             tally.note(&mut ledger, call.command, answer, out);
+            tally.note_change(&mut changes, call.command, answer);
         }
         Ok(tally)
     }

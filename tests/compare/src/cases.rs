@@ -1,5 +1,6 @@
 //! The worked cases, edges and example of document 01, checked of the second implementation before it is used; the
-//! edges of park are those of an image of 165 bytes, and edges of the parks' numbers and of keys stand beside them.
+//! edges of park are those of an image of 165 bytes, and edges of the parks' numbers, of keys and of changes of key stand
+//! beside them.
 
 use crate::cipher::LAST;
 use crate::command::{self, numbered, padded, IMAGE, IV, RECORD};
@@ -11,7 +12,7 @@ use crate::{aes, hex, rabbit, snow2, zuc};
 
 /// Checks all cases; tells how many there are, or the first that fails.
 pub fn check() -> Result<usize, String> {
-    let groups = [values(), edges(), numbers(), keys(), example()];
+    let groups = [values(), edges(), numbers(), keys(), changes(), example()];
     let cases: Vec<(&str, bool)> = groups.into_iter().flatten().collect();
     match cases.iter().find(|(_, holds)| !holds) {
         Some((name, _)) => Err(format!("a case of document 01 fails: {name}")),
@@ -62,7 +63,7 @@ fn edges() -> Vec<(&'static str, bool)> {
         ("out of 165 bytes for park is enough", code(&own, &command::park(7), 0, 0, 165) == 0),
         ("count 0 needs neither data nor out", code(&own, &command::crypt(7, 0), 0, 0, 0) == 0),
         ("an empty command is 1", code(&[], &[], 0, 0, 0) == 1),
-        ("an unknown command is 2 though it is short", code(&[], &[7], 0, 0, 0) == 2),
+        ("an unknown command is 2 though it is short", code(&[], &[8], 0, 0, 0) == 2),
     ]
 }
 
@@ -103,6 +104,37 @@ fn keys() -> Vec<(&'static str, bool)> {
     ]
 }
 
+/// The edges of a change of key, on a line at byte 9 or at the end.
+fn changes() -> Vec<(&'static str, bool)> {
+    let change = |position: u64| command::change_key(0, 0, &[5; IV], position);
+    let nine = [command::open_own(0, 4, &[3; RECORD], &[0; IV]), command::crypt(0, 9)];
+    let far = |position: u64| [open(0), command::park(0), command::resume(0, &image(4, position, 1, &[]))];
+    let after =
+        |before: &[Vec<u8>], more: &[Vec<u8>], last: &[u8]| code(&[before, more].concat(), last, RECORD, 99, IMAGE);
+    let (park, crypt) = (command::park(0), |count: u16| command::crypt(0, count));
+    vec![
+        ("a change at the line's position is accepted", after(&nine, &[], &change(9)) == 0),
+        ("a change a byte below it is 18", after(&nine, &[], &change(8)) == 18),
+        ("a change at 2^36 is accepted", after(&nine, &[], &change(END)) == 0),
+        ("a change a byte above it is 18", after(&nine, &[], &change(END + 1)) == 18),
+        ("a change while one waits is 17", after(&nine, &[change(12)], &change(12)) == 17),
+        ("a park while one waits is 17", after(&nine, &[change(12), crypt(2)], &park) == 17),
+        ("a park after it came due is accepted", after(&nine, &[change(12), crypt(3)], &park) == 0),
+        ("a park after one at the line's position is accepted", after(&nine, &[change(9)], &park) == 0),
+        ("n = 2^36 and a change there is accepted", after(&far(END), &[], &change(END)) == 0),
+        (
+            "n = 2^36 - 1, a change at 2^36 and count 2 is accepted",
+            after(&far(END - 1), &[change(END)], &crypt(2)) == 0,
+        ),
+        (
+            "n = 2^36 - 1, a change there and count 2 is accepted",
+            after(&far(END - 1), &[change(END - 1)], &crypt(2)) == 0,
+        ),
+        ("an empty tray is 10 for a change", code(&nine, &change(9), 0, 0, 0) == 10),
+        ("a change of 26 bytes is 1", after(&nine, &[], &change(9)[..26]) == 1),
+    ]
+}
+
 fn open(line: u8) -> Vec<u8> {
     command::open_own(line, 2, &padded(&[1], RECORD), &[0; 16])
 }
@@ -115,10 +147,10 @@ fn park_after(made: u32) -> u8 {
 }
 
 /// The code of a command after others on a fresh machine, with ones in the tray and zeros in data and out of the lengths
-/// given; 255 if one of the others is refused or a refusal counts bytes.
+/// given; the others have as much as they need. 255 if one of them is refused or a refusal counts bytes.
 fn code(before: &[Vec<u8>], command: &[u8], tray: usize, data: usize, out: usize) -> u8 {
     let mut machine = Machine::fresh();
-    let accepted = before.iter().all(|earlier| machine.call(earlier, &[], &[], &mut [0; IMAGE]).code == 0);
+    let accepted = before.iter().all(|earlier| machine.call(earlier, &[1; RECORD], &[0; 9], &mut [0; IMAGE]).code == 0);
     let answer = machine.call(command, &vec![1; tray], &vec![0; data], &mut vec![0; out]);
     let counts = answer.code != 0 && answer != Answer::refused(answer.code);
     if accepted && !counts {
@@ -147,6 +179,6 @@ mod tests {
 
     #[test]
     fn cases_hold() {
-        assert_eq!(check(), Ok(44));
+        assert_eq!(check(), Ok(57));
     }
 }

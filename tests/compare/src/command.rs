@@ -1,4 +1,4 @@
-//! The six commands as bytes: their lengths, where their operands stand, and writers for them.
+//! The seven commands as bytes: their lengths, where their operands stand, and writers for them.
 
 pub const OPEN_TRAY: u8 = 1;
 pub const OPEN_OWN: u8 = 2;
@@ -6,6 +6,7 @@ pub const CRYPT: u8 = 3;
 pub const PARK: u8 = 4;
 pub const RESUME: u8 = 5;
 pub const CLOSE: u8 = 6;
+pub const CHANGE_KEY: u8 = 7;
 
 /// The length of an image, and where the number of its park and the state begin in it.
 pub const IMAGE: usize = 165;
@@ -18,6 +19,9 @@ pub const RECORD: usize = 32;
 /// The length of an IV in a command.
 pub const IV: usize = 16;
 
+/// Where the position stands in a change of key.
+pub const POSITION_AT: usize = 3 + IV;
+
 /// The whole length of the command with this first byte; nothing if there is none.
 pub fn length(first: u8) -> Option<usize> {
     match first {
@@ -26,6 +30,7 @@ pub fn length(first: u8) -> Option<usize> {
         CRYPT => Some(4),
         PARK | CLOSE => Some(2),
         RESUME => Some(2 + IMAGE),
+        CHANGE_KEY => Some(POSITION_AT + 8),
         _ => None,
     }
 }
@@ -53,6 +58,29 @@ pub fn resume(line: u8, image: &[u8]) -> Vec<u8> {
 
 pub fn close(line: u8) -> Vec<u8> {
     vec![CLOSE, line]
+}
+
+pub fn change_key(line: u8, key_number: u8, iv: &[u8], position: u64) -> Vec<u8> {
+    [&[CHANGE_KEY, line, key_number], iv, &position.to_be_bytes()].concat()
+}
+
+/// The count of a crypt.
+pub fn count(crypt: &[u8]) -> usize {
+    usize::from(crypt[2]) * 256 + usize::from(crypt[3])
+}
+
+/// The position of a change of key.
+pub fn position(change: &[u8]) -> u64 {
+    eight_bytes(&change[POSITION_AT..])
+}
+
+/// The position that an image is at.
+pub fn image_position(image: &[u8]) -> u64 {
+    eight_bytes(&image[1..])
+}
+
+fn eight_bytes(bytes: &[u8]) -> u64 {
+    bytes[..8].iter().fold(0, |number, &byte| (number << 8) | u64::from(byte))
 }
 
 /// The number of the park that an image is from.

@@ -3,7 +3,6 @@
 
 use crate::builder::Builder;
 use crate::command::{self, IMAGE, RECORD};
-use crate::machine::END;
 use crate::plain;
 use crate::program::{Files, READ};
 use crate::random::Random;
@@ -44,11 +43,12 @@ pub fn list(mut random: Random, kind: usize) -> Files {
 /// A command file of one byte: a known command cut short, or an unknown one.
 fn one_byte(mut random: Random) -> Files {
     let any = random.byte();
-    let byte = random.pick(&[0, 1, 2, 3, 4, 5, 6, 7, 255, any]);
+    let byte = random.pick(&[0, 1, 2, 3, 4, 5, 6, 7, 8, 255, any]);
     Files { cmd: Some(vec![byte]), ..Files::default() }
 }
 
-/// A tray of `length` bytes, and opens with some of its last key, any, the first, the one after the last and 255.
+/// A tray of `length` bytes, and opens and changes of key with some of its last key, any, the first, the one after the
+/// last and 255.
 fn opens(mut random: Random, length: usize) -> Files {
     let mut tray = trays::records(&mut random, length.div_ceil(RECORD));
     tray.truncate(length);
@@ -64,7 +64,12 @@ fn opens(mut random: Random, length: usize) -> Files {
     for (line, number) in (0..).zip(numbers) {
         // A cipher with a key of 32 bytes takes every record but a blank one.
         let iv = plain::iv(&mut b.random, 4);
-        b.put(&command::open_tray(line, 4, number, &iv));
+        if b.random.chance(60) {
+            b.put(&command::open_tray(line, 4, number, &iv));
+        } else {
+            b.put(&command::open_own(line, 4, &[5; RECORD], &iv));
+            b.put(&command::change_key(line, number, &iv, 4));
+        }
         b.put(&command::crypt(line, 9));
     }
     b.files()
@@ -114,9 +119,10 @@ fn full_commands(mut random: Random, cut: bool) -> Files {
 fn tail(b: &mut Builder) -> Vec<u8> {
     let lines = b.idle_lines();
     let line = if lines.is_empty() { 0 } else { b.random.pick(&lines) };
-    match b.random.between(0, 2) {
+    match b.random.between(0, 3) {
         0 => command::open_tray(line, 4, 0, &[0; 16]),
         1 => command::resume(line, &[0; IMAGE]),
+        2 => command::change_key(line, 0, &[0; 16], 0),
         _ => command::crypt(line, 0),
     }
 }
@@ -130,7 +136,7 @@ fn pad(b: &mut Builder, kept: usize) -> bool {
         (1..=3, Some(&line), _) => b.put(&command::close(line)),
         (_, Some(_), _) => {
             let line = b.random.pick(&open);
-            let fits = b.data_left() > 4 && END - b.position(line) > 4;
+            let fits = b.data_left() > 4 && b.line_left(line) > 4;
             let count = if fits && b.random.chance(10) { 3 } else { 0 };
             b.put(&command::crypt(line, count))
         }

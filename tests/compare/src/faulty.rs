@@ -2,10 +2,9 @@
 
 use crate::builder::Builder;
 use crate::cipher::LAST;
-use crate::command::{self, numbered, park_number, CRYPT, OPEN_OWN, OPEN_TRAY, PARK, RECORD, RESUME};
-use crate::machine::END;
+use crate::command::{self, numbered, park_number, CHANGE_KEY, CRYPT, OPEN_OWN, OPEN_TRAY, PARK, RECORD, RESUME};
 use crate::plan::Plan;
-use crate::{images, plain, spent, trays};
+use crate::{changing, images, plain, spent, trays};
 
 /// The last command, with the faults that it holds itself.
 pub fn command(b: &mut Builder, plan: &Plan, line: u8) -> Vec<u8> {
@@ -18,11 +17,12 @@ pub fn command(b: &mut Builder, plan: &Plan, line: u8) -> Vec<u8> {
         }
         PARK => command::park(line),
         RESUME => command::resume(line, &image(b, plan)),
+        CHANGE_KEY => change_key(b, plan, line),
         _ => command::close(line),
     };
     if plan.has(2) {
-        let any = b.random.between(7, 255) as u8;
-        command[0] = b.random.pick(&[0, 7, 8, 9, 10, 255, any]);
+        let any = b.random.between(8, 255) as u8;
+        command[0] = b.random.pick(&[0, 8, 9, 10, 135, 255, any]);
     }
     if plan.has(1) {
         let length = b.random.size(1, command.len() - 1);
@@ -45,7 +45,7 @@ fn image(b: &mut Builder, plan: &Plan) -> Vec<u8> {
 }
 
 /// A cipher to make operands for: the planned one, but with fault 7 one whose key or IV leaves bytes over.
-fn cipher(b: &mut Builder, plan: &Plan) -> u8 {
+pub fn cipher(b: &mut Builder, plan: &Plan) -> u8 {
     if plan.stray_iv() {
         2
     } else if plan.stray_key() && plan.cipher == 4 {
@@ -82,6 +82,17 @@ fn open_tray(b: &mut Builder, plan: &Plan, line: u8) -> Vec<u8> {
     command::open_tray(line, operand, number, &iv)
 }
 
+/// A change of a line's key; of an idle line it is one for the planned cipher.
+fn change_key(b: &mut Builder, plan: &Plan, line: u8) -> Vec<u8> {
+    let (open, position) = if line < 8 { (b.cipher(line), b.position(line)) } else { (None, 0) };
+    let cipher = open.unwrap_or_else(|| cipher(b, plan));
+    let iv = iv(b, plan, cipher);
+    let number = key_number(b, plan, cipher);
+    let choose = if plan.has(18) { changing::not_due } else { changing::due };
+    let position = choose(&mut b.random, position);
+    command::change_key(line, number, &iv, position)
+}
+
 /// A key number with fault 10, or one whose key has the stray byte and the zeros that are planned; any if the tray has
 /// none such, and with fault 9 one of a record that is there.
 fn key_number(b: &mut Builder, plan: &Plan, cipher: u8) -> u8 {
@@ -116,8 +127,7 @@ fn open_own(b: &mut Builder, plan: &Plan, line: u8) -> Vec<u8> {
 /// A count above the limits whose fault is planned and within the others, as far as that can be had; often the
 /// least such.
 fn count(b: &mut Builder, plan: &Plan, line: u8) -> u16 {
-    let position = if line < 8 { b.position(line) } else { 0 };
-    let to_end = usize::try_from(END - position).unwrap_or(usize::MAX);
+    let to_end = if line < 8 { b.line_left(line) } else { 0 };
     let limits = [(13, to_end), (11, b.data_left()), (12, b.out_left())];
     let above = limits.iter().filter(|(n, _)| plan.has(*n)).map(|(_, limit)| limit.saturating_add(1));
     let within = limits.iter().filter(|(n, _)| !plan.has(*n)).map(|(_, limit)| *limit);

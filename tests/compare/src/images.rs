@@ -119,7 +119,7 @@ fn with(mut image: Vec<u8>, place: usize, byte: u8) -> Vec<u8> {
 }
 
 /// A well-formed image of one cipher.
-fn known(random: &mut Random, cipher: u8, position: u64) -> Vec<u8> {
+pub fn known(random: &mut Random, cipher: u8, position: u64) -> Vec<u8> {
     let state = state(random, cipher);
     image(cipher, position, 0, &state)
 }

@@ -1,16 +1,15 @@
-//! The plain machine of document 01: eight lines, each idle or with a cipher, a base state, a base unit and a
-//! position, and the numbers of its parks. Every keystream byte is found by stepping from the base; nothing else is
-//! kept.
+//! The plain machine of document 01: eight lines, each idle or open, and the numbers of its parks; which calls it
+//! refuses, and what it does for the others.
 
-use crate::cipher::{by_number, Cipher, State};
-use crate::command::{self, length, park_number, CRYPT, IMAGE, OPEN_OWN, OPEN_TRAY, PARK, RECORD, RESUME};
+use crate::cipher::by_number;
+use crate::command::{self, count, length, park_number};
+use crate::command::{CHANGE_KEY, CRYPT, IMAGE, OPEN_OWN, OPEN_TRAY, PARK, RESUME};
+use crate::keys;
+use crate::line::Line;
 use crate::parks::Parks;
 
-/// No keystream byte has a number of 2^36 or more.
-pub const END: u64 = 1 << 36;
-
-/// The longest tray.
-pub const TRAY: usize = 8_192;
+pub use crate::keys::TRAY;
+pub use crate::line::END;
 
 /// What a call answers: a code, and the bytes used of the command and of data and written to out.
 #[derive(Clone, Copy, Debug, PartialEq, Eq)]
@@ -28,68 +27,21 @@ impl Answer {
     }
 }
 
-/// What is seen of an open line: its cipher's number, its position n and the bytes of S(n div u).
+/// What is seen of an open line: its cipher's number, its position n, the bytes of S(n div u), and the change that
+/// waits, if one does.
 #[derive(Clone, Debug, PartialEq, Eq)]
 pub struct Seen {
     pub cipher: u8,
     pub position: u64,
     pub state: Vec<u8>,
+    pub waiting: Option<SeenChange>,
 }
 
-#[derive(Clone)]
-struct Line {
-    cipher: &'static dyn Cipher,
-    base: State,
-    base_unit: u64,
-    position: u64,
-}
-
-impl Line {
-    /// S(n div u) at the line's position n: Next applied (n div u) - m times to the base.
-    fn state(&self) -> State {
-        let unit = self.position / self.cipher.shape().unit as u64;
-        let mut state = self.base.clone();
-        for _ in self.base_unit..unit {
-            self.cipher.next(&mut state);
-        }
-        state
-    }
-
-    /// The `count` keystream bytes from the line's position on.
-    fn keystream(&self, count: usize) -> Vec<u8> {
-        if count == 0 {
-            return Vec::new();
-        }
-        let mut state = self.state();
-        let within = (self.position % self.cipher.shape().unit as u64) as usize;
-        let mut bytes = self.cipher.strm(&state)[within..].to_vec();
-        while bytes.len() < count {
-            self.cipher.next(&mut state);
-            bytes.extend(self.cipher.strm(&state));
-        }
-        bytes.truncate(count);
-        bytes
-    }
-
-    /// The image that the park of this number makes.
-    fn image(&self, number: u32) -> Vec<u8> {
-        let state = self.cipher.state_bytes(&self.state());
-        let (position, number) = (self.position.to_be_bytes(), number.to_be_bytes());
-        let image = [&[self.cipher.shape().number], &position[..], &number, &state].concat();
-        command::padded(&image, IMAGE)
-    }
-
-    /// The line of the image that stands first in `bytes`, whatever its number; nothing where number 8 applies.
-    fn from_image(bytes: &[u8]) -> Option<Line> {
-        let image = &bytes[..IMAGE];
-        let cipher = by_number(image[0])?;
-        let shape = cipher.shape();
-        let position = image[1..9].iter().fold(0, |n, &byte| (n << 8) | u64::from(byte));
-        let (state, padding) = image[command::STATE_AT..].split_at(shape.state);
-        let base = cipher.state_of(state);
-        let fits = position <= END && all_zero(padding) && cipher.admits(&base);
-        fits.then(|| Line { cipher, base, base_unit: position / shape.unit as u64, position })
-    }
+/// What is seen of a change that waits: its position, and the bytes of its stream's S(0).
+#[derive(Clone, Debug, PartialEq, Eq)]
+pub struct SeenChange {
+    pub due: u64,
+    pub start: Vec<u8>,
 }
 
 /// The machine; a fresh one has all lines idle and has made no park.
@@ -109,12 +61,19 @@ impl Machine {
         Machine { parks, ..Machine::fresh() }
     }
 
-    /// Makes an idle line as an image has it, whatever the image's number; tells whether number 8 lets it.
+    /// Makes a line as an image has it, whatever the image's number, with nothing waiting; tells whether number 8 lets
+    /// it, and makes the line idle if not.
     pub fn set(&mut self, line: u8, image: &[u8]) -> bool {
         let made = Line::from_image(image);
         let fits = made.is_some();
         self.lines[usize::from(line)] = made;
         fits
+    }
+
+    /// Lets a change wait on an open line, with the position and S(0) that an image of the line's cipher has; tells
+    /// whether a card may hold it.
+    pub fn wait(&mut self, line: u8, image: &[u8]) -> bool {
+        self.lines[usize::from(line)].as_mut().is_some_and(|l| l.wait(image))
     }
 
     /// One call. Accepted, it changes one line, the parks, and the written bytes at the start of `out`; refused,
@@ -128,15 +87,29 @@ impl Machine {
 
     /// The cipher's number and the position of a line, 0 to 7; nothing of an idle one.
     pub fn open(&self, line: u8) -> Option<(u8, u64)> {
-        self.lines[usize::from(line)].as_ref().map(|l| (l.cipher.shape().number, l.position))
+        self.line(line).map(|l| (l.cipher.shape().number, l.position))
+    }
+
+    /// The position of the change that waits on a line, 0 to 7, if one does.
+    pub fn waiting(&self, line: u8) -> Option<u64> {
+        self.line(line).and_then(|l| l.waiting.as_ref()).map(|change| change.due)
+    }
+
+    /// How many bytes can be taken through an open line, 0 to 7, before number 13; none through an idle one.
+    pub fn left(&self, line: u8) -> u64 {
+        self.line(line).map_or(0, Line::left)
     }
 
     /// What is seen of a line, 0 to 7, with its state; nothing of an idle one.
     pub fn seen(&self, line: u8) -> Option<Seen> {
-        self.lines[usize::from(line)].as_ref().map(|l| Seen {
+        self.line(line).map(|l| Seen {
             cipher: l.cipher.shape().number,
             position: l.position,
             state: l.cipher.state_bytes(&l.state()),
+            waiting: l
+                .waiting
+                .as_ref()
+                .map(|change| SeenChange { due: change.due, start: l.cipher.state_bytes(&change.start) }),
         })
     }
 
@@ -144,7 +117,12 @@ impl Machine {
         &self.parks
     }
 
-    /// The first number that applies, in document 01's order; nothing if the call is accepted.
+    fn line(&self, line: u8) -> Option<&Line> {
+        self.lines[usize::from(line)].as_ref()
+    }
+
+    /// The first number that applies, in the order of document 01 and the later tickets; nothing if the call is
+    /// accepted.
     fn refusal(&self, command: &[u8], tray: &[u8], data: usize, out: usize) -> Option<u8> {
         let Some(&kind) = command.first() else {
             return Some(1);
@@ -158,19 +136,24 @@ impl Machine {
         let line = usize::from(command[1]);
         let open = self.lines.get(line).and_then(Option::as_ref);
         let opens = kind == OPEN_TRAY || kind == OPEN_OWN;
-        let starts = opens || kind == RESUME;
-        let past_end = |l: &Line| l.position + count(command) as u64 > END;
+        let (starts, changes) = (opens || kind == RESUME, kind == CHANGE_KEY);
+        let cipher = || if opens { by_number(command[2]) } else { open.map(|l| l.cipher) };
+        let waits = || open.is_some_and(|l| l.waiting.is_some());
+        let passed = |l: &Line| command::position(command) < l.position || command::position(command) > END;
+        let past_end = |l: &Line| l.after(count(command)) > END;
         let held = || self.parks.holds(park_number(&command[2..]));
-        let rows: [(u8, &dyn Fn() -> bool); 14] = [
+        let rows: [(u8, &dyn Fn() -> bool); 16] = [
             (3, &|| line > 7),
             (4, &|| opens && by_number(command[2]).is_none()),
             (5, &|| starts && open.is_some()),
             (6, &|| !starts && open.is_none()),
+            (17, &|| (changes || kind == PARK) && waits()),
+            (18, &|| changes && open.is_some_and(passed)),
             (15, &|| kind == PARK && self.parks.used_up()),
-            (9, &|| kind == OPEN_TRAY && (!tray.len().is_multiple_of(RECORD) || tray.len() > TRAY)),
-            (10, &|| kind == OPEN_TRAY && RECORD * (usize::from(command[3]) + 1) > tray.len()),
-            (7, &|| opens && stray(command, tray)),
-            (16, &|| opens && blank(command, tray)),
+            (9, &|| keys::from_tray(kind) && keys::bad_length(tray)),
+            (10, &|| keys::from_tray(kind) && keys::not_there(command, tray)),
+            (7, &|| (opens || changes) && cipher().is_some_and(|cipher| keys::stray(cipher, command, tray))),
+            (16, &|| (opens || changes) && cipher().is_some_and(|cipher| keys::blank(cipher, command, tray))),
             (8, &|| kind == RESUME && Line::from_image(&command[2..]).is_none()),
             (14, &|| kind == RESUME && !held()),
             (13, &|| kind == CRYPT && open.is_some_and(past_end)),
@@ -185,19 +168,22 @@ impl Machine {
         let line = &mut self.lines[usize::from(command[1])];
         let mut answer = Answer { used_command: length(command[0]).unwrap_or(0), ..Answer::refused(0) };
         match command[0] {
-            OPEN_TRAY | OPEN_OWN => *line = opened(command, tray),
+            OPEN_TRAY | OPEN_OWN => {
+                *line = by_number(command[2]).map(|cipher| Line::first(cipher, keys::start(cipher, command, tray)));
+            }
             RESUME => {
                 *line = Line::from_image(&command[2..]);
                 self.parks.take_up(park_number(&command[2..]));
             }
+            CHANGE_KEY => {
+                let l = line.as_mut().expect("an accepted change is on an open line");
+                l.change(command::position(command), keys::start(l.cipher, command, tray));
+            }
             CRYPT => {
                 let l = line.as_mut().expect("an accepted crypt is on an open line");
-                answer.used_data = count(command);
-                answer.written = count(command);
-                for (i, key) in l.keystream(count(command)).into_iter().enumerate() {
-                    out[i] = data[i] ^ key;
-                }
-                l.position += count(command) as u64;
+                let count = count(command);
+                out[..count].copy_from_slice(&l.crypt(&data[..count]));
+                (answer.used_data, answer.written) = (count, count);
             }
             PARK => {
                 let l = line.take().expect("an accepted park is on an open line");
@@ -209,49 +195,4 @@ impl Machine {
         }
         answer
     }
-}
-
-/// The count of a crypt command.
-fn count(command: &[u8]) -> usize {
-    usize::from(command[2]) * 256 + usize::from(command[3])
-}
-
-fn all_zero(bytes: &[u8]) -> bool {
-    bytes.iter().all(|&byte| byte == 0)
-}
-
-/// The record that an open's key stands in: the tray's or the command's own.
-fn record<'a>(command: &'a [u8], tray: &'a [u8]) -> &'a [u8] {
-    if command[0] == OPEN_TRAY {
-        &tray[RECORD * usize::from(command[3])..][..RECORD]
-    } else {
-        &command[3..3 + RECORD]
-    }
-}
-
-/// The IV operand of an open, its last sixteen bytes.
-fn iv(command: &[u8]) -> &[u8] {
-    let start = if command[0] == OPEN_TRAY { 4 } else { 3 + RECORD };
-    &command[start..start + command::IV]
-}
-
-/// Whether a byte beyond the cipher's key or IV isn't 0; the cipher's number must be one.
-fn stray(command: &[u8], tray: &[u8]) -> bool {
-    by_number(command[2]).is_some_and(|cipher| {
-        let shape = cipher.shape();
-        !all_zero(&record(command, tray)[shape.key..]) || !all_zero(&iv(command)[shape.iv..])
-    })
-}
-
-/// Whether the key is all zero in the cipher's own length; the cipher's number must be one.
-fn blank(command: &[u8], tray: &[u8]) -> bool {
-    by_number(command[2]).is_some_and(|cipher| all_zero(&record(command, tray)[..cipher.shape().key]))
-}
-
-/// The line that an accepted open makes: S(0) at unit 0, position 0.
-fn opened(command: &[u8], tray: &[u8]) -> Option<Line> {
-    let cipher = by_number(command[2])?;
-    let shape = cipher.shape();
-    let base = cipher.init(&record(command, tray)[..shape.key], &iv(command)[..shape.iv]);
-    Some(Line { cipher, base, base_unit: 0, position: 0 })
 }

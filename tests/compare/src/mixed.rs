@@ -1,16 +1,16 @@
-//! Lists of single calls from a seed: the calls of several command lists mixed on one card, with crypts, parks, resumes
-//! and opens between them, so that numbers are held, taken up and replaced, images come again, and keys of every make
-//! are given to a card in use.
+//! Lists of single calls from a seed: the calls of several command lists mixed on one card, with crypts, parks, resumes,
+//! opens and changes of key between them, so that numbers are held, taken up and replaced, images come again, keys of
+//! every make are given to a card in use, and changes wait, come due and stand in the way of others.
 
 use crate::calls::{self, OwnCall};
 use crate::cipher::LAST;
 use crate::command::{self, numbered, park_number, IMAGE, PARK, RECORD, RESUME};
 use crate::ledger::{Fate, Ledger};
-use crate::machine::{Answer, Machine};
+use crate::machine::{Answer, Machine, END};
 use crate::parks::{self, Parks};
 use crate::program::{self, Call};
 use crate::random::Random;
-use crate::{images, lists, plain, trays};
+use crate::{changing, images, lists, plain, trays};
 
 /// A list of calls, and the card that it begins with: all lines idle, no number held, and perhaps parks made.
 pub struct CallList {
@@ -30,7 +30,7 @@ pub fn list(seed: u64, number: u64) -> CallList {
     let mut parts: Vec<Part> = (0..3).map(|i| Part::of(&mut random, seed, 3 * number + i)).collect();
     let (mut table, mut calls) = (Table { machine: start.clone(), ledger: Ledger::after(made) }, Vec::new());
     while !parts.is_empty() {
-        if random.chance(30) {
+        if random.chance(40) {
             calls.push(table.added(&mut random));
         }
         let which = random.size(0, parts.len() - 1);
@@ -112,6 +112,22 @@ fn opened(random: &mut Random, idle: &[u8], tray: &mut [u8]) -> Vec<u8> {
     command::open_tray(line, cipher, number as u8, &iv)
 }
 
+/// A change of the key of an open line. The key is one of three in the tray, where it is put, mostly one for the line's
+/// cipher; at times there is a fault.
+fn changed(random: &mut Random, line: u8, (cipher, position): (u8, u64), tray: &mut [u8]) -> Vec<u8> {
+    let (number, mut iv) = (random.size(0, 2), plain::iv(random, cipher));
+    let (mut key, mut due) = (plain::key(random, cipher), changing::due(random, position));
+    match random.between(0, 19) {
+        0 => key = vec![0; RECORD],
+        1 => key = trays::record(random),
+        2 => iv = random.bytes(command::IV),
+        3 | 4 => due = changing::not_due(random, position),
+        _ => (),
+    }
+    tray[RECORD * number..][..RECORD].copy_from_slice(&key);
+    command::change_key(line, number as u8, &iv, due)
+}
+
 /// The mixed card while its list is made, and what became of its parks.
 struct Table {
     machine: Machine,
@@ -127,7 +143,8 @@ impl Table {
         (answer.code, self.machine.parks().made())
     }
 
-    /// Makes a crypt or a park on an open line or a resume or an open on an idle one, and gives it.
+    /// Makes a crypt, a park or a change on an open line or a resume or an open on an idle one, and gives it; at times the
+    /// tray is cut off.
     fn added(&mut self, random: &mut Random) -> OwnCall {
         let (open, idle): (Vec<u8>, Vec<u8>) = (0..8).partition(|&line| self.machine.open(line).is_some());
         let mut tray = trays::records(random, 3);
@@ -135,15 +152,34 @@ impl Table {
             opened(random, &idle, &mut tray)
         } else if open.is_empty() || !idle.is_empty() && random.chance(40) {
             command::resume(random.pick(&idle), &self.image(random))
-        } else if random.chance(50) {
-            command::crypt(random.pick(&open), random.between(0, 50) as u16)
         } else {
-            command::park(random.pick(&open))
+            self.on_open(random, &open, &mut tray)
         };
+        if random.chance(5) {
+            tray.truncate(random.size(0, 3 * RECORD));
+        }
         let out = calls::about(random, IMAGE, usize::MAX);
         let call = OwnCall { command, tray, data: random.bytes(50), out: random.bytes(out) };
         self.call(&call);
         call
+    }
+
+    /// A crypt, a park or a change on one of these lines, which are open; where a change waits or 2^36 is near, mostly a
+    /// crypt or a change there.
+    fn on_open(&self, random: &mut Random, open: &[u8], tray: &mut [u8]) -> Vec<u8> {
+        let line = random.pick(open);
+        let place = self.machine.open(line).unwrap_or((1, 0));
+        let way = self.machine.waiting(line).map(|due| due - place.1);
+        match (random.between(0, 9), way) {
+            (0..=5, Some(way @ 1..=40)) => {
+                let more = random.between(2, 10);
+                command::crypt(line, random.pick(&[way - 1, way, way, way + 1, way + more]) as u16)
+            }
+            (0..=5, None) if END - place.1 < 100 => changed(random, line, place, tray),
+            (0..=3, _) => command::crypt(line, random.between(0, 50) as u16),
+            (4 | 5, _) => changed(random, line, place, tray),
+            _ => command::park(line),
+        }
     }
 
     /// An image that a park of the list wrote, mostly one that is held, or one from elsewhere with the next number
@@ -157,9 +193,13 @@ impl Table {
         } else {
             random.pick(&written)
         };
-        let contents = match random.between(0, 9) {
+        let contents = match random.between(0, 11) {
             0 | 1 => images::elsewhere(random),
-            2 => {
+            2 | 3 => {
+                let position = images::near_end(random);
+                images::at(random, position)
+            }
+            4 => {
                 let index = random.size(0, 3 * images::FAULTS);
                 images::bad(random, index)
             }
@@ -183,12 +223,14 @@ mod tests {
     use crate::subject::{Subject, Tally};
 
     #[test]
-    fn images_are_taken_up_and_refused_in_every_way() {
+    fn images_and_changes_are_taken_up_and_refused_in_every_way() {
         let (mut tally, mut subject) = (Tally::default(), CallByCall { card: Machine::fresh() });
-        (0..60).for_each(|number| tally.add(&subject.hold(8, number).unwrap()));
+        (0..100).for_each(|number| tally.add(&subject.hold(8, number).unwrap()));
         assert!(tally.resumes[Resume::AsParked as usize] > 180, "{tally:?}");
         assert!(tally.resumes.iter().all(|&count| count > 4), "{tally:?}");
         assert!(tally.codes[15] > 60 && tally.codes[16] > 30, "{tally:?}");
+        assert!(tally.codes[17] > 100 && tally.codes[18] > 40, "{tally:?}");
+        assert!(tally.changes.iter().all(|&count| count > 0), "{tally:?}");
     }
 
     #[test]

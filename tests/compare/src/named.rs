@@ -4,10 +4,12 @@
 mod altered;
 mod blank;
 mod case;
+mod changes;
 mod examples;
 mod frames;
 mod full;
 mod images;
+mod late;
 mod limits;
 mod numbers;
 mod order;
@@ -16,6 +18,8 @@ mod positions;
 mod published;
 mod refusals;
 mod reuse;
+mod script;
+mod waiting;
 
 pub use case::Case;
 
@@ -26,6 +30,9 @@ pub fn all() -> Vec<Case> {
         refusals::cases(),
         order::cases(),
         blank::cases(),
+        changes::cases(),
+        waiting::cases(),
+        late::cases(),
         frames::cases(),
         parks::cases(),
         numbers::cases(),
@@ -52,7 +59,7 @@ mod tests {
 
     #[test]
     fn cases_hold_and_have_names_of_their_own() {
-        assert_eq!(check(), Ok(1337));
+        assert_eq!(check(), Ok(2064));
         let cases = all();
         let names: HashSet<&str> = cases.iter().map(Case::name).collect();
         assert_eq!(names.len(), cases.len());

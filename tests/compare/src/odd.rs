@@ -3,15 +3,15 @@
 
 use crate::builder::Builder;
 use crate::cipher::LAST;
-use crate::command::{CLOSE, OPEN_OWN, OPEN_TRAY, RESUME};
+use crate::command::{self, CHANGE_KEY, OPEN_OWN, OPEN_TRAY, PARK, RESUME};
 use crate::plan::{self, Plan};
 use crate::program::{Files, READ};
 use crate::random::Random;
-use crate::{faulty, fill, images, plain, spent};
+use crate::{changing, faulty, fill, images, plain, spent};
 
 /// A list whose last command has the fault that `number` names.
 pub fn single(mut random: Random, number: u8) -> Files {
-    let kinds: Vec<u8> = (OPEN_TRAY..=CLOSE).filter(|&kind| plan::numbers(kind).contains(&number)).collect();
+    let kinds: Vec<u8> = (OPEN_TRAY..=CHANGE_KEY).filter(|&kind| plan::numbers(kind).contains(&number)).collect();
     let kind = random.pick(&kinds);
     let plan = Plan::new(&mut random, kind, &[number]);
     list(random, plan)
@@ -51,6 +51,26 @@ pub fn blank(mut random: Random, index: usize) -> Files {
     let cipher = 1 + (index / 2 % usize::from(LAST)) as u8;
     let any = Plan::new(&mut random, kind, &[]);
     list(random, Plan { faults: vec![16], cipher, ..any })
+}
+
+/// What refuses a change of key, and a park while one waits.
+const CHANGES: [(u8, u8); 8] = [
+    (CHANGE_KEY, 17),
+    (CHANGE_KEY, 18),
+    (CHANGE_KEY, 7),
+    (CHANGE_KEY, 16),
+    (PARK, 17),
+    (CHANGE_KEY, 6),
+    (CHANGE_KEY, 9),
+    (CHANGE_KEY, 10),
+];
+
+/// A list that ends with such a refusal, by this index each of them with each cipher; a stray byte is in the IV or not.
+pub fn change(mut random: Random, index: usize) -> Files {
+    let (kind, fault) = CHANGES[index % CHANGES.len()];
+    let (cipher, round) = (1 + (index / CHANGES.len() % usize::from(LAST)) as u8, index / CHANGES.len());
+    let any = Plan::new(&mut random, kind, &[]);
+    list(random, Plan { faults: vec![fault], cipher, in_iv: cipher == 2, place: round / usize::from(LAST), ..any })
 }
 
 /// Some accepted commands, then the planned one, then perhaps some that aren't run.
@@ -94,18 +114,33 @@ fn line(b: &mut Builder, plan: &Plan) -> u8 {
         let image = images::at(&mut b.random, position);
         plain::altered(b, line, &image);
         line
+    } else if open && (plan.kind == CHANGE_KEY || plan.has(17)) {
+        line_to_change(b, plan)
     } else if open {
-        open_line(b)
+        open_line(b, plan.kind)
     } else {
         plain::idle_line(b)
     }
 }
 
-/// An open line; one is opened if there is none.
-fn open_line(b: &mut Builder) -> u8 {
-    let lines = b.open_lines();
+/// A line of the planned cipher behind its first byte, with a change waiting if 17 is planned.
+fn line_to_change(b: &mut Builder, plan: &Plan) -> u8 {
+    let (line, cipher) = (plain::idle_line(b), faulty::cipher(b, plan));
+    plain::open_with(b, line, cipher);
+    let count = b.random.size(1, 40).min(b.data_left()).min(b.out_left());
+    b.put(&command::crypt(line, count as u16));
+    if plan.has(17) {
+        changing::wait(b, line);
+    }
+    line
+}
+
+/// An open line, for a park one on which no change waits; one is opened if there is none.
+fn open_line(b: &mut Builder, kind: u8) -> u8 {
+    let fits = |line: &u8| kind != PARK || b.waiting(*line).is_none();
+    let lines: Vec<u8> = b.open_lines().into_iter().filter(fits).collect();
     if lines.is_empty() {
-        let line = b.random.between(0, 7) as u8;
+        let line = plain::idle_line(b);
         plain::open_line(b, line);
         return line;
     }
@@ -124,7 +159,7 @@ mod tests {
 
     #[test]
     fn every_number_is_met() {
-        for number in (1..=14).chain([16]) {
+        for number in (1..=14).chain(16..=18) {
             let met = |k: &u64| last_code(&single(Random::new(2, *k), number)) == number;
             assert!((0..12).filter(met).count() >= 6, "{number}");
         }
@@ -141,6 +176,14 @@ mod tests {
             met.insert((call.command[0], call.command[2]));
         }
         assert_eq!(met.len(), 2 * usize::from(LAST));
+    }
+
+    #[test]
+    fn changes_are_refused_for_each_cipher() {
+        for index in 0..3 * CHANGES.len() * usize::from(LAST) {
+            let (files, (_, fault)) = (change(Random::new(2, 0), index), CHANGES[index % CHANGES.len()]);
+            assert_eq!(last_code(&files), fault, "{index}");
+        }
     }
 
     #[test]

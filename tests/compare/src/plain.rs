@@ -1,15 +1,14 @@
 //! Well-formed lists: all ciphers, keys from the tray and from commands, frames of odd lengths on several lines in
-//! turn, parks and resumes.
+//! turn, changes of key, parks and resumes.
 
 use crate::builder::Builder;
 use crate::cipher::{by_number, LAST};
 use crate::command::{self, numbered, padded, park_number, IMAGE, IV, RECORD};
 use crate::images;
 use crate::ledger::Fate;
-use crate::machine::END;
 use crate::program::{Files, READ};
 use crate::random::Random;
-use crate::{trays, zeros};
+use crate::{changing, trays, zeros};
 
 /// A list of accepted commands.
 pub fn list(mut random: Random) -> Files {
@@ -39,12 +38,12 @@ pub fn far(mut random: Random) -> Files {
     }
     let count = b.random.size(2, 40);
     steps(&mut b, count);
-    let past = |line: &u8| END - b.position(*line) < u64::from(u16::MAX);
-    let near: Vec<u8> = b.open_lines().into_iter().filter(past).collect();
+    let most = usize::from(u16::MAX);
+    let near: Vec<u8> = b.open_lines().into_iter().filter(|&line| b.line_left(line) < most).collect();
     if !near.is_empty() && b.random.chance(60) {
         let line = b.random.pick(&near);
-        let least = END - b.position(line) + 1;
-        let any = b.random.between(least, u64::from(u16::MAX));
+        let least = b.line_left(line) + 1;
+        let any = b.random.size(least, most);
         let count = b.random.pick(&[least, any]) as u16;
         b.put(&command::crypt(line, count));
     }
@@ -86,16 +85,23 @@ fn step(b: &mut Builder) {
         return;
     }
     let line = b.random.pick(&open);
+    let waits = b.waiting(line).is_some();
     match choice {
-        0..=79 => crypt(b, line),
-        80..=95 if b.out_left() >= IMAGE => b.put(&command::park(line)),
+        72..=79 if !waits && changing::change(b, line) => true,
+        80..=95 if !waits && b.out_left() >= IMAGE => b.put(&command::park(line)),
+        0..=90 => crypt(b, line),
         _ => b.put(&command::close(line)),
     };
 }
 
-/// Opens an idle line with any cipher, from the tray where it has a key for it, or with a key of the command's own.
+/// Opens an idle line with any cipher.
 pub fn open_line(b: &mut Builder, line: u8) -> bool {
     let cipher = b.random.between(1, LAST.into()) as u8;
+    open_with(b, line, cipher)
+}
+
+/// Opens an idle line with a cipher, from the tray where it has a key for it, or with a key of the command's own.
+pub fn open_with(b: &mut Builder, line: u8, cipher: u8) -> bool {
     let keys = trays::keys(b.tray(), cipher);
     if !keys.is_empty() && b.random.chance(60) {
         let number = b.random.pick(&keys);
@@ -161,8 +167,7 @@ pub fn park_one(b: &mut Builder) -> bool {
 
 /// Enciphers a frame on an open line, as long as data, out and the line's position allow.
 pub fn crypt(b: &mut Builder, line: u8) -> bool {
-    let to_end = usize::try_from(END - b.position(line)).unwrap_or(usize::MAX);
-    let most = b.data_left().min(b.out_left()).min(to_end);
+    let most = b.data_left().min(b.out_left()).min(b.line_left(line));
     let count = frame(&mut b.random, most);
     b.put(&command::crypt(line, count as u16))
 }

@@ -2,9 +2,9 @@
 //! whose conditions are to hold.
 
 use crate::cipher::LAST;
-use crate::command::{CLOSE, CRYPT, OPEN_OWN, OPEN_TRAY, PARK, RESUME};
+use crate::command::{CHANGE_KEY, CRYPT, OPEN_OWN, OPEN_TRAY, PARK, RESUME};
 use crate::random::Random;
-use crate::{images, spent, trays};
+use crate::{images, keys, spent, trays};
 
 /// The numbers that a command of each kind can be refused with on a card that began as a fresh one, in their order.
 pub fn numbers(kind: u8) -> &'static [u8] {
@@ -12,18 +12,21 @@ pub fn numbers(kind: u8) -> &'static [u8] {
         OPEN_TRAY => &[1, 2, 3, 4, 5, 9, 10, 7, 16],
         OPEN_OWN => &[1, 2, 3, 4, 5, 7, 16],
         CRYPT => &[1, 2, 3, 6, 13, 11, 12],
-        PARK => &[1, 2, 3, 6, 12],
+        PARK => &[1, 2, 3, 6, 17, 12],
         RESUME => &[1, 2, 3, 5, 8, 14],
+        CHANGE_KEY => &[1, 2, 3, 6, 17, 18, 9, 10, 7, 16],
         _ => &[1, 2, 3, 6],
     }
 }
 
-/// Every kind of command with every two numbers that it can be refused with.
+/// Every kind of command with every two numbers that it can be refused with. On an idle line no change waits, and none
+/// does where the list's tray has a length that number 9 refuses.
 pub fn pairs() -> Vec<(u8, u8, u8)> {
     let mut all = Vec::new();
-    for kind in OPEN_TRAY..=CLOSE {
+    for kind in OPEN_TRAY..=CHANGE_KEY {
         for (i, &one) in numbers(kind).iter().enumerate() {
-            all.extend(numbers(kind)[i + 1..].iter().map(|&other| (kind, one, other)));
+            let others = numbers(kind)[i + 1..].iter().map(|&other| (kind, one, other));
+            all.extend(others.filter(|&(_, one, other)| ![(6, 17), (17, 9)].contains(&(one, other))));
         }
     }
     all
@@ -33,7 +36,8 @@ pub fn pairs() -> Vec<(u8, u8, u8)> {
 pub struct Plan {
     pub kind: u8,
     pub faults: Vec<u8>,
-    /// The cipher of an open, unless a stray byte is planned that it leaves no place for.
+    /// The cipher of an open or of the line whose key is changed, unless a stray byte is planned that it leaves no place
+    /// for.
     pub cipher: u8,
     /// For number 8: the image's fault.
     pub image: usize,
@@ -70,11 +74,14 @@ impl Plan {
         self.has(7) && !self.stray_iv()
     }
 
-    /// A tray in which the faults can be had; with number 9 or 10 it is of zeros alone where 16 is planned.
+    /// A tray in which the faults can be had; with number 9 or 10 it is of zeros alone where 16 is planned, unless it
+    /// needs a key for a change that waits.
     pub fn tray(&self, random: &mut Random) -> Vec<u8> {
-        let from_tray = self.kind == OPEN_TRAY;
+        let from_tray = keys::from_tray(self.kind);
         let mut tray = if self.has(9) {
             trays::bad_length(random)
+        } else if self.has(10) && self.has(17) {
+            trays::useful(random)
         } else if self.has(10) {
             let count = random.pick(&[0, 1, 2, 16, 254, 255]);
             trays::records(random, count)
@@ -84,10 +91,12 @@ impl Plan {
             trays::with_blank(random, self.place)
         } else if self.has(7) && from_tray {
             trays::with_stray(random, self.place)
+        } else if self.kind == CHANGE_KEY || self.has(17) {
+            trays::useful(random)
         } else {
             trays::any(random)
         };
-        if self.has(16) && (self.has(9) || self.has(10)) {
+        if self.has(16) && (self.has(9) || self.has(10) && !self.has(17)) {
             tray.fill(0);
         }
         tray

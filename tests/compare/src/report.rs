@@ -1,5 +1,6 @@
 //! What is said while lists run and at the end.
 
+use crate::changes::Change;
 use crate::ledger::Resume;
 use crate::subject::Tally;
 use std::io::{self, IsTerminal};
@@ -29,7 +30,7 @@ impl Progress {
 }
 
 /// The summary: named cases, lists, calls, bytes enciphered, how often each number was met, 255 only if it was, and how
-/// often each kind of resume.
+/// often each kind of resume and of change.
 pub fn summary(tally: &Tally) -> String {
     let mut text = format!("named cases {}\nlists {}\ncalls {}\n", tally.named, tally.lists, tally.calls);
     text.push_str(&format!("bytes enciphered {}\n", tally.bytes));
@@ -44,17 +45,24 @@ pub fn summary(tally: &Tally) -> String {
     for (name, count) in Resume::NAMES.iter().zip(tally.resumes) {
         text.push_str(&format!("{name}: {count}\n"));
     }
+    text.push_str("change of key met\n");
+    for (name, count) in Change::NAMES.iter().zip(tally.changes) {
+        text.push_str(&format!("{name}: {count}\n"));
+    }
     text
 }
 
-/// The numbers and the kinds of resume that were never met. Number 15, 255 and an image from before the list are asked
-/// for only if cards are handed in: a fresh card doesn't come to them.
+/// The numbers and the kinds of resume and of change that were never met. Number 15, 255 and an image from before the
+/// list are asked for only if cards are handed in: a fresh card doesn't come to them.
 pub fn missing(tally: &Tally, handed_in: bool) -> Vec<String> {
     let numbers = (0..).zip(tally.codes).chain([(255, tally.damaged)]);
     let numbers = numbers.filter(|&(number, count)| count == 0 && (handed_in || ![15, 255].contains(&number)));
-    let kinds = Resume::NAMES.iter().enumerate().filter(|&(kind, _)| tally.resumes[kind] == 0);
-    let kinds = kinds.filter(|&(kind, _)| handed_in || kind != Resume::Earlier as usize);
-    numbers.map(|(number, _)| number.to_string()).chain(kinds.map(|(_, name)| format!("resume: {name}"))).collect()
+    let resumes = Resume::NAMES.iter().enumerate().filter(|&(kind, _)| tally.resumes[kind] == 0);
+    let resumes = resumes.filter(|&(kind, _)| handed_in || kind != Resume::Earlier as usize);
+    let changes = Change::NAMES.iter().zip(tally.changes).filter(|&(_, count)| count == 0);
+    let numbers = numbers.map(|(number, _)| number.to_string());
+    let resumes = resumes.map(|(_, name)| format!("resume: {name}"));
+    numbers.chain(resumes).chain(changes.map(|(name, _)| format!("change of key: {name}"))).collect()
 }
 
 /// The last line of a run in which nothing differed, for the part of the tests that it is: the named cases, if any, and
@@ -87,13 +95,14 @@ mod tests {
 
     #[test]
     fn what_was_never_met_is_told() {
-        let mut tally = Tally { codes: [1; 17], damaged: 1, resumes: [1; 8], ..Tally::default() };
+        let mut tally = Tally { codes: [1; 19], damaged: 1, resumes: [1; 8], changes: [1; 9], ..Tally::default() };
         assert!(missing(&tally, true).is_empty());
         tally.codes[14..].fill(0);
-        (tally.damaged, tally.resumes[2], tally.resumes[7]) = (0, 0, 0);
-        assert_eq!(missing(&tally, false), ["14", "16", "resume: 14, number 0"]);
-        let all = ["14", "15", "16", "255", "resume: 14, number 0", "resume: 14, from before the list"];
-        assert_eq!(missing(&tally, true), all);
+        (tally.damaged, tally.resumes[2], tally.resumes[7], tally.changes[1]) = (0, 0, 0, 0);
+        let (zero, earlier) = ("resume: 14, number 0", "resume: 14, from before the list");
+        let change = "change of key: due within a crypt";
+        assert_eq!(missing(&tally, false), ["14", "16", "17", "18", zero, change]);
+        assert_eq!(missing(&tally, true), ["14", "15", "16", "17", "18", "255", zero, earlier, change]);
     }
 
     #[test]

@@ -2,6 +2,7 @@
 //! implementation.
 //! `cardrun` as a process is one; anything with a function for one call can be another.
 
+use crate::changes::{Change, Changes};
 use crate::ledger::{Ledger, Resume};
 use crate::machine::Answer;
 use crate::named::{self, Case};
@@ -9,16 +10,17 @@ use crate::report::Progress;
 
 /// What lists came to by the second implementation: named cases, lists of the seed, calls of both, the bytes that their
 /// crypts took, how often each code was met, 255 for a damaged card apart from the others, and how often each kind of
-/// resume on a card whose parks are known.
+/// resume and of change on a card whose parks and lines are known.
 #[derive(Clone, Debug, Default, PartialEq, Eq)]
 pub struct Tally {
     pub named: u64,
     pub lists: u64,
     pub calls: u64,
     pub bytes: u64,
-    pub codes: [u64; 17],
+    pub codes: [u64; 19],
     pub damaged: u64,
     pub resumes: [u64; Resume::NAMES.len()],
+    pub changes: [u64; Change::NAMES.len()],
 }
 
 impl Tally {
@@ -38,13 +40,21 @@ impl Tally {
         }
     }
 
+    /// Counts what became of a change of key by a call of a list whose lines are followed.
+    pub fn note_change(&mut self, changes: &mut Changes, command: &[u8], answer: &Answer) {
+        if let Some(change) = changes.note(command, answer) {
+            self.changes[change as usize] += 1;
+        }
+    }
+
     pub fn add(&mut self, other: &Tally) {
         self.named += other.named;
         self.lists += other.lists;
         self.calls += other.calls;
         self.bytes += other.bytes;
         self.damaged += other.damaged;
-        let (sums, counts) = (self.codes.iter_mut().chain(&mut self.resumes), other.codes.iter().chain(&other.resumes));
+        let sums = self.codes.iter_mut().chain(&mut self.resumes).chain(&mut self.changes);
+        let counts = other.codes.iter().chain(&other.resumes).chain(&other.changes);
         for (sum, count) in sums.zip(counts) {
             *sum += count;
         }

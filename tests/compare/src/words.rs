@@ -1,19 +1,25 @@
 //! The card as words that a program in C or Rust keeps: eight lines alike, each the mode (1 of an open line), the
 //! cipher's number, the position in two words, the high one first, and the state bytes as big-endian words with zeros
-//! after them; then the count of the parks made, and for each line the number that is held. An idle line is all zeros,
-//! whether a number is held for it or not.
+//! after them, then in the same form the position of the change that waits and its stream's S(0), all zeros where none
+//! does; then the count of the parks made, and for each line the number that is held. An idle line is all zeros, whether
+//! a number is held for it or not.
 
 use crate::cipher;
 use crate::command::padded;
-use crate::machine::{Machine, Seen};
+use crate::machine::{Machine, Seen, SeenChange};
 use crate::parks::Parks;
 
 /// Where the state stands in a line, and how many words it has.
 pub const STATE: usize = 4;
 pub const STATE_WORDS: usize = 38;
 
+/// Where the position of the change that waits stands in a line, and where its stream's S(0) does, which has as many
+/// words as a state.
+pub const DUE: usize = STATE + STATE_WORDS;
+pub const START: usize = DUE + 2;
+
 /// The words of a line.
-pub const LINE: usize = STATE + STATE_WORDS;
+pub const LINE: usize = START + STATE_WORDS;
 
 /// Where the count of parks stands in a card, and where the held numbers begin.
 pub const COUNT: usize = 8 * LINE;
@@ -30,21 +36,27 @@ pub fn of(machine: &Machine) -> Vec<u32> {
 }
 
 fn open_line(seen: Seen) -> Vec<u32> {
-    let (high, low) = ((seen.position >> 32) as u32, seen.position as u32);
-    let state = cipher::words(&padded(&seen.state, 4 * STATE_WORDS));
-    [vec![1, u32::from(seen.cipher), high, low], state].concat()
+    let waiting = seen.waiting.unwrap_or(SeenChange { due: 0, start: Vec::new() });
+    let head = [1, u32::from(seen.cipher)];
+    [&head, &place_in(seen.position, &seen.state)[..], &place_in(waiting.due, &waiting.start)].concat()
+}
+
+/// A place in a stream: its position and the bytes of a state.
+fn place_in(position: u64, state: &[u8]) -> Vec<u32> {
+    cipher::words(&[&position.to_be_bytes(), &padded(state, 4 * STATE_WORDS)[..]].concat())
 }
 
 /// The machine with the lines and parks that the words of a card hold; nothing where they are no card, which is what
-/// 255 says. An open line is judged as an image with its cipher, position and state.
+/// 255 says. An open line is judged as an image with its cipher, position and state, and a change that waits as one with
+/// the line's cipher, the change's position and its stream's S(0).
 pub fn machine(card: &[u32]) -> Option<Machine> {
     let card: &[u32; CARD] = card.try_into().ok()?;
     let held: [u32; 8] = card[HELD..].try_into().ok()?;
     let mut machine = Machine::with(Parks::of(card[COUNT], held)?);
     for (number, line) in (0..).zip(card[..COUNT].chunks_exact(LINE)) {
         let taken = match line[0] {
-            0 => line.iter().all(|&word| word == 0),
-            1 => image(line).is_some_and(|image| machine.set(number, &image)),
+            0 => zero(line),
+            1 => opened(&mut machine, number, line),
             _ => false,
         };
         if !taken {
@@ -54,10 +66,21 @@ pub fn machine(card: &[u32]) -> Option<Machine> {
     Some(machine)
 }
 
-/// The image of an open line, with 0 for a number; nothing if the cipher isn't a byte.
-fn image(line: &[u32]) -> Option<Vec<u8>> {
-    let cipher = u8::try_from(line[1]).ok()?;
-    let (position, state) = line[2..].split_at(STATE - 2);
+/// Makes a line of the machine as the words of an open one have it; tells whether a card may hold them.
+fn opened(machine: &mut Machine, number: u8, line: &[u32]) -> bool {
+    let (own, waiting) = line[2..].split_at(DUE - 2);
+    let open = image(line[1], own).is_some_and(|image| machine.set(number, &image));
+    open && (zero(waiting) || image(line[1], waiting).is_some_and(|image| machine.wait(number, &image)))
+}
+
+fn zero(words: &[u32]) -> bool {
+    words.iter().all(|&word| word == 0)
+}
+
+/// The image of a place in a stream, with 0 for a number; nothing if the cipher isn't a byte.
+fn image(cipher: u32, place: &[u32]) -> Option<Vec<u8>> {
+    let cipher = u8::try_from(cipher).ok()?;
+    let (position, state) = place.split_at(2);
     let rest = [position, &[0], state].concat().into_iter().flat_map(|word| word.to_be_bytes());
     Some([cipher].into_iter().chain(rest).collect())
 }
@@ -84,15 +107,23 @@ fn place(word: usize) -> String {
 #[cfg(test)]
 mod tests {
     use super::*;
+    use crate::command;
     use crate::images;
     use crate::machine::END;
     use crate::random::Random;
 
-    /// A machine with an image from elsewhere on each line but the last, nine parks made, and three numbers held.
+    /// A machine with an image from elsewhere on each line but the last, a change that waits on every other one if there
+    /// is a position for it, nine parks made, and three numbers held.
     fn some(random: &mut Random) -> Machine {
         let mut machine = Machine::with(Parks::of(9, [0, 4, 0, 0, 9, 0, 0, 1]).unwrap());
         for line in 0..7 {
-            assert!(machine.set(line, &images::elsewhere(random)));
+            let image = images::elsewhere(random);
+            assert!(machine.set(line, &image));
+            let position = command::image_position(&image);
+            if line % 2 == 0 && position < END {
+                let due = random.between(position + 1, END);
+                assert!(machine.wait(line, &images::known(random, image[0], due)));
+            }
         }
         machine
     }
@@ -115,8 +146,14 @@ mod tests {
         let words = of(&machine);
         assert_eq!(words[LINE..LINE + 5], [1, 2, 0xF, 0xFFFF_FFFF, 0xAAAA_AAAA]);
         assert_eq!(words[LINE + 19..LINE + 21], [0xAAAA_AAAA, 0x0100_0000]);
-        assert!(words[..LINE].iter().chain(&words[LINE + 21..COUNT]).all(|&word| word == 0));
-        assert_eq!(words[336..], [7, 6, 0, 0, 0, 0, 0, 0, 5]);
+        assert!(zero(&words[..LINE]) && zero(&words[LINE + 21..COUNT]));
+        assert_eq!(words[656..], [7, 6, 0, 0, 0, 0, 0, 0, 5]);
+        assert!(machine.wait(1, &images::image(2, END, 0xBBBB_BBBB, &[[0xCC; 64].as_slice(), &[1]].concat())));
+        let waiting = of(&machine);
+        assert_eq!(waiting[82 + 42..82 + 45], [0x10, 0, 0xCCCC_CCCC]);
+        assert_eq!(waiting[82 + 59..82 + 61], [0xCCCC_CCCC, 0x0100_0000]);
+        assert!(zero(&waiting[82 + 61..COUNT]));
+        assert_eq!((&waiting[..LINE + DUE], &waiting[COUNT..]), (&words[..LINE + DUE], &words[COUNT..]));
     }
 
     #[test]
@@ -136,11 +173,36 @@ mod tests {
     }
 
     #[test]
+    fn a_change_that_waits_is_above_its_lines_position_and_has_a_state() {
+        let mut machine = Machine::fresh();
+        assert!(machine.set(3, &images::image(1, 7, 0, &[1; 72])));
+        assert!(machine.wait(3, &images::image(1, 8, 0, &[2; 72])));
+        let words = of(&machine);
+        let with = |changes: &[(usize, u32)]| {
+            let mut card = words.clone();
+            changes.iter().for_each(|&(place, word)| card[3 * LINE + place] = word);
+            super::machine(&card).is_some()
+        };
+        let (high, low, last) = (DUE, DUE + 1, START + STATE_WORDS - 1);
+        let bad = [(low, 0), (low, 7), (low, 1), (high, 17), (high, 1 << 28), (START, 0), (START + 15, 1 << 31)];
+        for change in bad.into_iter().chain([(START + 18, 1), (last, 1), (1, 0), (3, 8), (3, 9)]) {
+            assert!(!with(&[change]), "{change:?}");
+        }
+        for change in [(low, 9), (low, u32::MAX), (high, 1), (START, 1), (START + 16, u32::MAX), (3, 0), (1, 3)] {
+            assert!(with(&[change]), "{change:?}");
+        }
+        assert!(with(&[(high, 16), (low, 0)]) && !with(&[(high, 16), (low, 1)]));
+        assert!(
+            with(&[(2, 15), (3, u32::MAX), (high, 16), (low, 0)]) && !with(&[(2, 16), (3, 0), (high, 16), (low, 0)])
+        );
+    }
+
+    #[test]
     fn differences_are_found() {
         let told = |at: usize| first_difference(&[0; CARD], &[vec![0; at], vec![9], vec![0; CARD - at - 1]].concat());
         assert_eq!(told(LINE + 3).unwrap(), "word 3 of line 1 is 00000009, expected 00000000");
-        assert_eq!(told(336).unwrap(), "the count of parks is 00000009, expected 00000000");
-        assert_eq!(told(344).unwrap(), "the number held for line 7 is 00000009, expected 00000000");
+        assert_eq!(told(656).unwrap(), "the count of parks is 00000009, expected 00000000");
+        assert_eq!(told(664).unwrap(), "the number held for line 7 is 00000009, expected 00000000");
         assert_eq!(first_difference(&[1, 2], &[1]).unwrap(), "the card has 1 words, expected 2");
         assert_eq!(first_difference(&[1, 2], &[1, 2]), None);
     }

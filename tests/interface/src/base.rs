@@ -1,16 +1,20 @@
-//! A card with a line for each cipher, one that is a byte before the end and one that is idle, and with numbers of
-//! parks that are held, taken up and replaced; and calls that meet every code on it but 15. It can be turned, so that
-//! what stood on line 0 stands on another.
+//! A card with a line for each cipher, one that is a byte before the end and one that is idle, with changes of key that
+//! wait on two lines, and with numbers of parks that are held, taken up and replaced; and calls that meet every code on
+//! it but 15. It can be turned, so that what stood on line 0 stands on another.
 
+use crate::changes;
 use compare::calls::OwnCall;
 use compare::cipher::{by_number, LAST};
 use compare::command::{self, padded, IMAGE, IV, RECORD};
 use compare::images::image;
 use compare::machine::{Machine, END};
 
-/// What stands on the lines of a card that is not turned; on the first six are the ciphers by their numbers.
+/// What stands on the lines of a card that is not turned; on the first six are the ciphers by their numbers. On those of
+/// SNOW 2.0 a change waits, four bytes on and at 2^36.
 pub const ZUC: u8 = 0;
 pub const RABBIT: u8 = 1;
+pub const WAITING: u8 = 2;
+pub const FAR: u8 = 3;
 pub const KCIPHER2: u8 = 4;
 pub const MUGI: u8 = 5;
 pub const LATE: u8 = 6;
@@ -18,6 +22,16 @@ pub const IDLE: u8 = 7;
 
 /// The cipher of the line that is late.
 pub const LATE_CIPHER: u8 = 3;
+
+/// The lines that are open, with their ciphers and positions.
+pub fn open_lines() -> impl Iterator<Item = (u8, u8, u64)> {
+    (ZUC..=MUGI).map(|what| (what, what + 1, position(what))).chain([(LATE, LATE_CIPHER, END - 1)])
+}
+
+/// The position of one of the first six lines.
+pub fn position(what: u8) -> u64 {
+    5 * u64::from(what) + 6
+}
 
 /// The numbers of the parks: one that was taken up, one that a later park replaced, and those that are held for three
 /// lines. The last is the count.
@@ -35,19 +49,31 @@ pub fn line(what: u8, turn: u8) -> u8 {
 pub fn machine(turn: u8) -> Machine {
     let mut machine = Machine::fresh();
     let mut accept = |command: &[u8]| {
-        let code = machine.call(command, &[], &[0; 31], &mut [0; IMAGE]).code;
+        let code = machine.call(command, &tray(), &[0; 31], &mut [0; IMAGE]).code;
         assert_eq!(code, 0, "the card is made with accepted commands");
     };
     for what in [LATE, IDLE, IDLE, KCIPHER2, RABBIT] {
         accept(&open(line(what, turn), 2));
         accept(&command::park(line(what, turn)));
     }
-    for cipher in 1..=LAST {
-        accept(&open(line(cipher - 1, turn), cipher));
-        accept(&command::crypt(line(cipher - 1, turn), 5 * u16::from(cipher) + 1));
+    for what in ZUC..=MUGI {
+        accept(&open(line(what, turn), what + 1));
+        accept(&command::crypt(line(what, turn), position(what) as u16));
     }
+    accept(&change(line(WAITING, turn), position(WAITING) + 4));
+    accept(&change(line(FAR, turn), END));
     accept(&command::resume(line(LATE, turn), &image(LATE_CIPHER, END - 1, TAKEN_UP, &[7; 72])));
     machine
+}
+
+/// A tray of one key of 16 bytes.
+fn tray() -> Vec<u8> {
+    padded(&[8; 16], RECORD)
+}
+
+/// A change of key with an IV that is every cipher's.
+pub fn change(line: u8, position: u64) -> Vec<u8> {
+    command::change_key(line, 0, &padded(&[0x5A; 8], IV), position)
 }
 
 /// A well-formed image of SNOW 2.0 with a number.
@@ -61,20 +87,15 @@ fn open(line: u8, cipher: u8) -> Vec<u8> {
     command::open_own(line, cipher, &padded(&vec![cipher + 1; key], RECORD), &padded(&vec![0xA5; iv], IV))
 }
 
-/// A crypt of no bytes, which changes nothing.
-pub fn empty_crypt(turn: u8) -> Vec<u8> {
-    command::crypt(line(KCIPHER2, turn), 0)
-}
-
 /// Calls with the codes that they meet on the card: all that are accepted, and some for each refusal.
 pub fn calls(turn: u8) -> Vec<(u8, OwnCall)> {
-    [accepted(turn), unread(turn), unfit(turn), unlent(turn), blank(turn)].concat()
+    [accepted(turn), unread(turn), unfit(turn), unlent(turn), blank(turn), changes::calls(turn)].concat()
 }
 
 /// A call with a tray of one key of 16 bytes and ten bytes of data, and as many bytes in out as an image has and one
 /// more.
-fn call(command: Vec<u8>) -> OwnCall {
-    OwnCall { command, tray: padded(&[8; 16], RECORD), data: vec![0x11; 10], out: vec![0x22; IMAGE + 1] }
+pub fn call(command: Vec<u8>) -> OwnCall {
+    OwnCall { command, tray: tray(), data: (0x11..0x1B).collect(), out: vec![0x22; IMAGE + 1] }
 }
 
 fn accepted(turn: u8) -> Vec<(u8, OwnCall)> {
@@ -86,7 +107,7 @@ fn accepted(turn: u8) -> Vec<(u8, OwnCall)> {
         command::crypt(line(ZUC, turn), 9),
         command::crypt(line(MUGI, turn), 10),
         command::crypt(line(LATE, turn), 1),
-        empty_crypt(turn),
+        command::crypt(line(KCIPHER2, turn), 0),
         command::park(line(RABBIT, turn)),
         command::park(line(MUGI, turn)),
         command::resume(idle, &some(HELD[0].1)),
@@ -105,9 +126,12 @@ fn unread(turn: u8) -> Vec<(u8, OwnCall)> {
         (1, open(idle, 1)[..50].to_vec()),
         (1, command::resume(idle, &some(HELD[0].1)[..IMAGE - 1])),
         (1, command::resume(idle, &some(HELD[0].1)[..161])),
+        (1, change(line(ZUC, turn), 9)[..26].to_vec()),
+        (1, vec![7]),
         (2, vec![0; 2 + IMAGE]),
-        (2, vec![7]),
+        (2, vec![8]),
         (3, command::close(8)),
+        (3, change(8, END + 1)),
         (3, command::crypt(255, 1)),
         (4, open(idle, 0)),
         (4, open(idle, LAST + 1)),

@@ -1,6 +1,7 @@
-//! Every kind of damage that 255 names. Whatever else is wrong with a call, its code is 255, and nothing changes.
+//! Every kind of damage that 255 names, but those of a change that waits and of the parks. Whatever else is wrong with a
+//! call, its code is 255, and nothing changes.
 
-use crate::base::{IDLE, LATE, LATE_CIPHER, MUGI, RABBIT, ZUC};
+use crate::base::{open_lines, IDLE, MUGI, RABBIT, ZUC};
 use crate::change::{hold_all, Change};
 use compare::cipher::{by_number, LAST};
 use compare::subject::Tally;
@@ -16,17 +17,17 @@ pub fn hold() -> Result<Tally, String> {
 
 /// The places of a line's head.
 const MODE: usize = 0;
-const CIPHER: usize = 1;
+pub const CIPHER: usize = 1;
 const HIGH: usize = 2;
 const LOW: usize = 3;
 
 /// The lines that are open, with their ciphers.
 fn open() -> impl Iterator<Item = (u8, u8)> {
-    (ZUC..=MUGI).map(|what| (what, what + 1)).chain([(LATE, LATE_CIPHER)])
+    open_lines().map(|(what, cipher, _)| (what, cipher))
 }
 
 /// One change for each of these words in a place.
-fn each(name: &str, what: u8, place: usize, words: &[u32]) -> Vec<Change> {
+pub fn each(name: &str, what: u8, place: usize, words: &[u32]) -> Vec<Change> {
     words.iter().map(|&word| Change::new(format!("{name} {word:x}"), what, &[(place, word)])).collect()
 }
 

@@ -33,6 +33,12 @@ mod tests {
     use super::*;
     use crate::base;
     use crate::lent::COUNTS;
+    use compare::command::{count, CRYPT};
+
+    /// Whether a call is a crypt of no bytes, which changes nothing.
+    fn empty_crypt(call: &OwnCall) -> bool {
+        call.command.first() == Some(&CRYPT) && count(&call.command) == 0
+    }
 
     #[test]
     fn a_refusal_leaves_all_as_it_was() {
@@ -40,7 +46,7 @@ mod tests {
         for (code, call) in base::calls(3) {
             let left = wanted(&card, &call, &COUNTS);
             assert_eq!(left.code, code);
-            assert_eq!(left.card != card, code == 0 && call.command != base::empty_crypt(3));
+            assert_eq!(left.card != card, code == 0 && !empty_crypt(&call));
             if code != 0 {
                 assert_eq!(left, Left { code, card: card.clone(), out: call.out, counts: vec![0; 3] });
             }

@@ -7,15 +7,18 @@
 mod args;
 mod base;
 mod change;
+mod changes;
 mod damages;
 mod edges;
 mod held;
 mod lengths;
 mod lent;
 mod linked;
+mod long;
 mod numbers;
 mod room;
 mod struck;
+mod waiting;
 
 use args::Options;
 use compare::report;
@@ -59,9 +62,12 @@ fn run(options: &Options) -> Result<(), String> {
 fn named() -> Result<Tally, String> {
     let groups = [
         ("cards with a damaged line", damages::hold()?),
+        ("cards with a damaged change that waits", waiting::damaged()?),
         ("cards with a held number above the count", numbers::above()?),
         ("cards with a number held twice", numbers::twice()?),
         ("cards that are just well formed", edges::hold()?),
+        ("cards with a change that waits", waiting::well_formed()?),
+        ("long frames with a change in them", long::hold()?),
         ("other lengths of card and counts", lengths::hold()?),
     ];
     let mut sum = Tally::default();

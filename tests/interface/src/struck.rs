@@ -4,10 +4,11 @@
 
 use crate::held;
 use crate::lent::COUNTS;
+use compare::machine::END;
 use compare::mixed;
 use compare::random::Random;
 use compare::subject::Tally;
-use compare::words::{self, CARD, COUNT, HELD, LINE, STATE};
+use compare::words::{self, CARD, COUNT, DUE, HELD, LINE, START, STATE};
 use compare::zuc::TOP;
 
 /// Words at the limits of what a place may hold.
@@ -34,10 +35,10 @@ pub fn hold(seed: u64, number: u64) -> Result<Tally, String> {
     Ok(tally)
 }
 
-/// Changes a card: its length, its lines' order, its parks, or one to three of its words.
+/// Changes a card: its length, its lines' order, its parks, a change that waits, or one to three of its words.
 fn strike(random: &mut Random, card: &mut Vec<u32>) {
     let (one, other) = (random.size(0, 7), random.size(0, 7));
-    match random.between(0, 24) {
+    match random.between(0, 30) {
         0 => card.truncate(random.size(0, CARD - 1)),
         1 => card.resize(CARD + random.size(1, LINE), 0),
         2 => card.copy_within(LINE * one..LINE * (one + 1), LINE * other),
@@ -51,6 +52,7 @@ fn strike(random: &mut Random, card: &mut Vec<u32>) {
                 card[place] = number(random, card);
             }
         }
+        10..=15 => wait(random, &mut card[LINE * one..LINE * (one + 1)]),
         _ => {
             for _ in 0..random.size(1, 3) {
                 let place = place(random);
@@ -60,10 +62,24 @@ fn strike(random: &mut Random, card: &mut Vec<u32>) {
     }
 }
 
-/// The place of a word: a line's mode, its cipher, a half of its position, or a word of its state.
+/// Lets a change wait on a line, with the line's own state for its S(0), or moves the one that waits: mostly to a position
+/// a few bytes on, at times to the line's own or a far one.
+fn wait(random: &mut Random, line: &mut [u32]) {
+    if line[DUE] == 0 && line[DUE + 1] == 0 {
+        line.copy_within(STATE..DUE, START);
+    }
+    let position = (u64::from(line[2]) << 32) + u64::from(line[3]);
+    let (near, any) = (position + random.between(1, 60), random.draw());
+    let due = random.pick(&[near, near, near, near, END, END + 1, position, position.wrapping_sub(1), any]);
+    (line[DUE], line[DUE + 1]) = ((due >> 32) as u32, due as u32);
+}
+
+/// The place of a word: a line's mode, its cipher, a half of its position or of a change's, or a word of its state or of
+/// a change's S(0).
 fn place(random: &mut Random) -> usize {
-    let within = match random.between(0, 9) {
+    let within = match random.between(0, 11) {
         place @ 0..=3 => place as usize,
+        4 => random.size(DUE, START - 1),
         _ => random.size(STATE, LINE - 1),
     };
     LINE * random.size(0, 7) + within

@@ -1,13 +1,16 @@
--- `card_checks::line_ok` meets its contract: of an open line the test is its cipher's, and another is idle, its words all zero.
+-- `card_checks::line_ok` meets its contract: of an open line its state and its change are tested, and another is idle, its words all zero.
 -- Assumes nothing.
-use mathlib.Core.Path.{_≡_, ap₂, sym, _∙_}
-use mathlib.Core.Bool.{true, false}
+use mathlib.Core.Path.{_≡_, ap, ap₂, sym, _∙_}
+use mathlib.Core.Bool.{Bool, true, false}
+use mathlib.Core.List.{List}
 use Prim.Native.Nat.{ℕ}
-use native.Mathlib.Omega.{arith}
 use lib.ListN.{take, drop}
+use borrow.Author.Tests.{not-true, not-false}
 use Rattle.card_sizes.specs.Sizes.{stateWords, headWords}
-use Rattle.machine.specs.Machine.{openOk}
-use Rattle.card_line.proofs.Lines.{line-held, zero-line, no-line, open-line}
+use Rattle.words.specs.Tests.{both}
+use Rattle.machine.specs.Machine.{stateOk, changeOk, imageOk, openOk, lineOk}
+use Rattle.card_line.specs.Words.{lineIn}
+use Rattle.card_line.proofs.Lines.{state-slice, line-held, zero-line, no-line, open-line}
 use Rattle.card_checks.proofs.Walks.{no-more}
 use borrow.Author.Needs.{needs}
 use Rattle.card_checks.proofs.line_ok.Statement.{statement}
@@ -15,34 +18,65 @@ use Rattle.card_checks.proofs.line_ok.Tie as tie
 
 -- ---- places
 
-abbrev start : tie.Then2 → tie.Start
-start c = c .before .before .before .before .before
+abbrev first : tie.After-open-with → tie.Then1
+first p = p .before .before .before .before
+
+abbrev start : tie.Then1 → tie.Start
+start t = t .before .before .before
+
+abbrev idle : tie.After-words-zero → tie.Start
+idle z = z .before .before .before .before
+
+-- ---- an open line
+
+-- what is tested of its state
+state : (p : tie.After-open-with) → p .open-with .result ≡ imageOk (lineIn (start (first p) .args .line .now))
+state p =
+    let s = start (first p) in
+    let ws = s .args .line .now in
+    let q = p .before .before in
+    p .open-with .ensures
+    ∙ ap₂ (λ (x y : ℕ). stateOk x y (take stateWords (drop headWords ws))) (q .before .cipher-of .ensures) (q .position-of .ensures .0)
+    ∙ ap (stateOk (lineIn ws .cipher) (lineIn ws .n)) (state-slice ws (s .pre))
+
+is-ok : (p : tie.After-open-with) (b : Bool) → p .open-with .result ≡ b → let ws = start (first p) .args .line .now in
+    lineOk (lineIn ws) ≡ both b (changeOk (lineIn ws .cipher) (lineIn ws .n) (lineIn ws .due) (lineIn ws .waiting))
+unfolding openOk
+is-ok p b e =
+    let t = first p in
+    let ws = start t .args .line .now in
+    sym (open-line ws (t .if1 .taken)) ∙ ap (λ (x : Bool). both x (changeOk (lineIn ws .cipher) (lineIn ws .n) (lineIn ws .due) (lineIn ws .waiting))) (sym (state p) ∙ e)
 
 returns : tie.Need-returns
-returns c =
-    let p = c .before .before in
-    let t = p .before .before in
-    let s = t .before .before .before in
-    let ws = s .args .line .now in
-    let e =
-    c .open-with .ensures
-    ∙ ap₂ (λ (x y : ℕ). openOk (record { mode = 1; cipher = x; n = y; words = take stateWords (drop headWords ws) })) (p .before .cipher-of .ensures) (p .position-of .ensures .0)
-    ∙ open-line ws (s .pre) (t .if1 .taken) in
-    (e, λ y. line-held ws (s .pre) (p .position-of .ensures .1) (sym e ∙ y))
+returns c = (sym (is-ok (c .before) false (not-true _ (c .if2 .taken))), no-more)
 
 returns-2 : tie.Need-returns-2
 returns-2 c =
-    let s = start c in
-    let z = zero-line (s .args .line .now) (s .pre) (sym (c .before .words-zero .ensures) ∙ c .if2 .taken) in
-    (sym (z .0), λ _. z .1)
+    let p = c .before .before in
+    let s = start (first p) in
+    let ws = s .args .line .now in
+    let q = p .before .before in
+    let e =
+    c .change-ok .ensures .0
+    ∙ ap₂ (λ (x y : ℕ). changeOk x y (lineIn ws .due) (lineIn ws .waiting)) (q .before .cipher-of .ensures) (q .position-of .ensures .0)
+    ∙ sym (is-ok p true (not-false _ (c .before .if2 .left))) in
+    (e, λ y. line-held ws (s .pre) (q .position-of .ensures .1) (c .change-ok .ensures .1) (sym e ∙ y))
+
+-- ---- another
 
 returns-3 : tie.Need-returns-3
 returns-3 c =
+    let s = idle (c .before) in
+    let z = zero-line (s .args .line .now) (s .pre) (sym (c .before .words-zero .ensures) ∙ c .if3 .taken) in
+    (sym (z .0), λ _. z .1)
+
+returns-4 : tie.Need-returns-4
+returns-4 c =
     let e = c .before .before in
-    let s = e .before .before .before in
-    (no-line (s .args .line .now) (s .pre) (sym (c .before .words-zero .ensures) ∙ c .if2 .left) (e .if1 .left), no-more)
+    let s = idle (c .before) in
+    (no-line (s .args .line .now) (s .pre) (sym (c .before .words-zero .ensures) ∙ c .if3 .left) (e .if1 .left), no-more)
 
 pub line-ok-spec : {M : Type 1} → statement M
 line-ok-spec =
-    tie.close (tie.spec (search needs) (λ c κs. search needs) (λ c κs. search needs) (search needs) (search needs) (search needs)
-    (λ c κs. search needs) returns (λ c κs. search needs) returns-2 returns-3)
+    tie.close (tie.spec (search needs) (λ c κs. search needs) (λ c κs. search needs) (search needs) (search needs) (search needs) (λ c κs. search needs) returns (λ c κs. search needs) returns-2
+    (λ c κs. search needs) returns-3 returns-4)

@@ -13,7 +13,7 @@ use Rattle.card_sizes.specs.Sizes.{stateWords}
 use Rattle.ciphers.specs.Table.{isCipher, cipherAt}
 use Rattle.words.proofs.Tests.{both-false}
 use Rattle.ciphers.proofs.Numbers.{read-none, read-is}
-use Rattle.machine.specs.Machine.{limit, openOk}
+use Rattle.machine.specs.Machine.{limit, stateOk}
 use borrow.Author.Needs.{needs}
 use Rattle.card_checks.proofs.open_with.Statement.{statement}
 use Rattle.card_checks.proofs.open_with.Tie as tie
@@ -24,26 +24,26 @@ abbrev start : tie.After-admits-arg → tie.Start
 start c = c .before .before .before .before .before .before .before
 
 returns : tie.Need-returns
-unfolding openOk
+unfolding stateOk
 returns c =
     let a = c .before .before .args in
     let m = cipherAt (a .c) .admits (a .w .now) in
     sym (both-false (isCipher (a .c)) (both (leb (a .n) limit) m) (ap (λ (b : Bool). both b m) (lt-leb (a .n) limit (c .if1 .taken))))
 
 returns-2 : tie.Need-returns-2
-unfolding openOk
+unfolding stateOk
 returns-2 c = rw (read-none _ (sym (c .before .before .read-cipher .ensures) ∙ c .enum-told .given .1))
 
 slice-aggregate-admits : tie.Need-slice-aggregate-admits
-unfolding openOk
+unfolding stateOk
 slice-aggregate-admits c = let s = start c in sym (length-take-le stateWords (s .args .w .now) (omega (arith, s .pre)))
 
 admits-requires : tie.Need-admits-requires
-unfolding openOk
+unfolding stateOk
 admits-requires c κs = let s = start c in length-take-le stateWords (s .args .w .now) (omega (arith, s .pre))
 
 returns-3 : tie.Need-returns-3
-unfolding openOk
+unfolding stateOk
 returns-3 c =
     let t = c .before .before .before in
     let e = t .before .before .before in

@@ -1,11 +1,10 @@
 -- `card_image::put` meets its contract: the cipher's byte, the words of the position, the number and the words of the state, each behind the one before it.
 -- Assumes nothing.
-use mathlib.Core.Path.{ap, subst, _∙_}
+use mathlib.Core.Path.{subst}
 use mathlib.Core.List.{List, [], _∷_, _++_}
-use Prim.Native.Nat.{ℕ, _-_, _*_}
+use Prim.Native.Nat.{ℕ, _-_}
 use native.Mathlib.Omega.{arith}
 use lib.ListN.{length, take, drop, set}
-use Rattle.keystream.proofs.Parts.{tail-part}
 use borrow.Rule.Slice.PartMut.{putMid}
 use Rattle.words.specs.Strings.{bytesOf}
 use Rattle.card_sizes.specs.Sizes.{imageLength}
@@ -99,7 +98,7 @@ put-words-requires-2 c κs =
     let s = begun (read (placed k)) in
     let f = s .pre .1 in
     let r = front-room (third k) 152 f in
-    let n = ap length (tail-part 4 (s .args .line .now)) ∙ state-length (s .args .line .now) (s .pre .0) (s .args .out .now) f in
+    let n = state-length (s .args .line .now) (s .pre .0) (s .args .out .now) f in
     omega (arith, r, n)
 
 -- ---- once the state is put
@@ -116,11 +115,9 @@ whole k =
     let p = read (placed (numbered k)) in
     let s = begun p in
     let ws = s .args .line .now in
-    let o = out-3 (numbered k) in
     subst (λ (x : List ℕ). Front x (s .args .out .now) (out-4 k) imageLength)
     (parts-image ws (s .pre .0) (s .args .out .now) (s .pre .1) (p .cipher-of .result) (s .args .number) (p .cipher-of .ensures))
-    (front-state ws (s .pre .0) (s .args .out .now) (s .pre .1) _ (third (numbered k))
-    (k .put-words2 .ensures ∙ ap (λ (x : List ℕ). spelt x ++ drop (4 * length x) (take (length o - 13) (drop 13 o))) (tail-part 4 ws)))
+    (front-state ws (s .pre .0) (s .args .out .now) (s .pre .1) _ (third (numbered k)) (k .put-words2 .ensures))
 
 same-length : tie.Need-same-length
 same-length c = front-length (whole (c .before .before))

@@ -9,13 +9,13 @@ use lib.Dec.{eqb}
 use borrow.Author.Tests.{eq-eqb, ne-eqb, not-true, not-false}
 use Rattle.card_sizes.specs.Sizes.{resumeLength}
 use Rattle.command.specs.Decode.{lengthOf}
-use Rattle.machine.specs.Machine.{Line, decided, refuseIf, imageLine, imageNumber, imageIn, lineOk, openOk, isIdle}
+use Rattle.machine.specs.Machine.{decided, refuseIf, plainLine, imageLine, imageNumber, imageIn, imageOk, isIdle}
 use Rattle.machine.specs.Parks.{holds, taken}
 use Rattle.machine.proofs.Lines.{shown-based}
 use Rattle.card_layout.specs.Words.{cardIn, putLine, putParks}
 use Rattle.card_outcome.specs.Leaves.{publicOf}
 use Rattle.card_outcome.proofs.Laws.{busy-is, held-by, given-true, given-false, given-refusal, given-resume}
-use Rattle.card_park.proofs.Images.{image-is, image-plain}
+use Rattle.card_park.proofs.Images.{image-is, image-plain, image-ok}
 use borrow.Author.Needs.{needs}
 use Rattle.card_park.proofs.run_resume.Statement.{statement}
 use Rattle.card_park.proofs.run_resume.Tie as tie
@@ -48,8 +48,7 @@ idle p = p .before .before .before .before
 abbrev image : tie.After-words-in → List ℕ
 image p = imageIn (start (idle p .before) .args .command .now)
 
-is-image : (p : tie.After-words-in) →
-    _≡_ {A = Line} (record { mode = 1; cipher = p .before .before .cipher-in .result; n = p .before .position-in .result; words = p .words-in .result }) (imageLine (image p))
+is-image : (p : tie.After-words-in) → plainLine 1 (p .before .before .cipher-in .result) (p .before .position-in .result) (p .words-in .result) ≡ imageLine (image p)
 is-image p = image-is (image p) (p .before .before .cipher-in .ensures) (p .before .position-in .ensures) (p .words-in .ensures)
 
 -- ---- once its number is looked for
@@ -69,8 +68,8 @@ words h = start (idle (brought h) .before) .args .card .now
 not-busy : (h : tie.After-is-held) → not (isIdle (publicOf (words h)) (start (idle (brought h) .before) .args .i)) ≡ false
 not-busy h = let e = idle (brought h) in busy (e .before) true (eq-eqb _ _ (e .if1 .left))
 
-good : (h : tie.After-is-held) (b : Bool) → judged h .open-with .result ≡ b → openOk (imageLine (image (brought h))) ≡ b
-good h b e = sym (ap openOk (is-image (brought h))) ∙ sym (judged h .open-with .ensures) ∙ e
+good : (h : tie.After-is-held) (b : Bool) → judged h .open-with .result ≡ b → imageOk (imageLine (image (brought h))) ≡ b
+good h b e = sym (ap imageOk (is-image (brought h))) ∙ sym (judged h .open-with .ensures) ∙ e
 
 is-held : (h : tie.After-is-held) (b : Bool) → h .is-held .result ≡ b → not (holds (publicOf (words h) .parks) (imageNumber (image (brought h)))) ≡ not b
 is-held h b e =
@@ -87,7 +86,7 @@ returns-2 c =
 abbrev looked : tie.Else2 → tie.After-is-held
 looked f = f .before
 
-whole : (f : tie.Else2) → openOk (imageLine (image (brought (looked f)))) ≡ true
+whole : (f : tie.Else2) → imageOk (imageLine (image (brought (looked f)))) ≡ true
 whole f = good (looked f) true (not-false _ (f .if2 .left))
 
 returns-3 : tie.Need-returns-3
@@ -104,10 +103,6 @@ returns-3 c =
 
 abbrev held : tie.After-put-line → tie.Else3
 held l = l .before .before .before
-
-ok-line : (img : List ℕ) → openOk (imageLine img) ≡ true → lineOk (imageLine img) ≡ true
-unfolding lineOk imageLine
-ok-line img h = h
 
 returns-4 : tie.Need-returns-4
 unfolding decided refuseIf lengthOf
@@ -126,7 +121,7 @@ returns-4 c =
     λ _ t o. given-false w t o _ _ _ (not-busy h)
     (given-false w t o _ _ _ (ap not ok)
     (given-false w t o _ _ _ (is-held h true (not-false _ (f .if3 .left)))
-    (given-resume w t o (s .pre .0 .0) (s .args .i) (s .pre .0 .1) (imageNumber (image p)) resumeLength _ ln (sym (shown-based ln)) (image-plain (image p) ok) (ok-line (image p) ok) ws (c .accepted .ensures))))
+    (given-resume w t o (s .pre .0 .0) (s .args .i) (s .pre .0 .1) (imageNumber (image p)) resumeLength _ ln (sym (shown-based ln)) (image-plain (image p) ok) (image-ok (image p) ok) ws (c .accepted .ensures))))
 
 pub run-resume-spec : {M : Type 1} → statement M
 run-resume-spec =

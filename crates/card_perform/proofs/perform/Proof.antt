@@ -35,6 +35,9 @@ start-from-k5 c = c .before .before .before .before .before .before .before
 abbrev start-from-k6 : tie.After-k6 → tie.Start
 start-from-k6 c = c .before .before .before .before .before .before .before
 
+abbrev start-from-k7 : tie.After-k7 → tie.Start
+start-from-k7 c = c .before .before .before .before .before .before .before
+
 abbrev after-run-crypt : tie.After-slice-known6 → tie.After-run-crypt
 after-run-crypt c = c .before .before .before .before
 
@@ -98,6 +101,13 @@ run-close-requires c κs =
     let s = start-from-k6 p in
     (s .pre .0, has s (p .k6 .given .1) .line)
 
+run-change-requires : tie.Need-run-change-requires
+unfolding lengthOf
+run-change-requires c κs =
+    let p = c .before .before in
+    let s = start-from-k7 p in
+    let h = has s (p .k7 .given .1) in ((s .pre .0, h .line), h .whole)
+
 returns : tie.Need-returns
 returns c =
     let q = c .before .before in
@@ -140,9 +150,16 @@ returns-6 c =
     let s = start-from-k6 p in
     found (s .args .card .now) (lent s) (p .k6 .given .1) (q .run-close .ensures (lent s))
 
+returns-7 : tie.Need-returns-7
+returns-7 c =
+    let q = c .before .before in
+    let p = q .before .before .before in
+    let s = start-from-k7 p in
+    found (s .args .card .now) (lent s) (p .k7 .given .1) (q .run-change .ensures (s .args .«data» .now) (s .args .out .now))
+
 pub perform-spec : {M : Type 1} → statement M
 perform-spec =
     tie.close
     (tie.spec (λ c. search needs) run-tray-requires (λ c. search needs) run-own-requires (λ c. search needs) run-crypt-requires (λ c. search needs) run-park-requires
-    (λ c. search needs) run-resume-requires (λ c. search needs) run-close-requires (λ c. search needs) returns (λ c. search needs) returns-2 (λ c. search needs) (λ c. search needs) returns-3
-    (λ c. search needs) (λ c. search needs) returns-4 (λ c. search needs) returns-5 (λ c. search needs) returns-6)
+    (λ c. search needs) run-resume-requires (λ c. search needs) run-close-requires (λ c. search needs) run-change-requires (λ c. search needs) returns (λ c. search needs) returns-2 (λ c. search needs) (λ c. search needs) returns-3
+    (λ c. search needs) (λ c. search needs) returns-4 (λ c. search needs) returns-5 (λ c. search needs) returns-6 (λ c. search needs) returns-7)

@@ -1,5 +1,6 @@
 //! Number 16: keys that are all zero in the cipher's own length, by both opens and whatever stands beside them; and keys
 //! of which a byte alone isn't 0, which are taken. A resume is never refused so, for the state of an image is no key.
+//! Changes of key to such keys are in `waiting`.
 
 use super::published::name;
 use super::refusals::open;

@@ -51,7 +51,7 @@ fn tray_lengths() -> Vec<Case> {
     ]
 }
 
-/// Only command 01 looks at the tray.
+/// Only commands 01 and 07 look at the tray.
 fn no_tray_needed() -> Vec<Case> {
     let resume = command::resume(1, &image(4, 0, 1, &[]));
     let commands = [open(0), command::crypt(0, 0), command::park(0), resume, command::close(1)];
@@ -82,11 +82,12 @@ fn commands() -> Vec<Case> {
     let of = |name: &str, last: &[u8], end: &str| Case::new(name, &[long(), vec![last.to_vec()]].concat(), end);
     vec![
         of("16,384 bytes of commands", &[6, 0], "end 4073 0"),
-        of("16,385 bytes of commands, the last unknown", &[6, 0, 7], "end 4073 0"),
+        of("16,385 bytes of commands, the last unknown", &[6, 0, 8], "end 4073 0"),
         of("16,386 bytes of commands, the last a close", &[6, 0, 6, 0], "end 4073 0"),
         of("16,383 bytes of commands, the last cut short", &[3], "end 4072 1"),
         of("a crypt that the limit cuts", &[3, 0, 0, 0], "end 4072 1"),
-        of("an unknown command in the last two bytes", &[7, 0, 0, 0], "end 4072 2"),
+        of("a change of key that the limit cuts", &command::change_key(0, 0, &[0; 16], 0), "end 4072 1"),
+        of("an unknown command in the last two bytes", &[8, 0, 0, 0], "end 4072 2"),
         of("20,000 bytes of commands", &[&[6, 0], &[6; 3_616][..]].concat(), "end 4073 0"),
     ]
 }
@@ -98,6 +99,7 @@ fn absent() -> Vec<Case> {
         data: Some(vec![0; 9]),
     };
     let from_tray = command::open_tray(0, 4, 0, &[0; 16]);
+    let changed = [open(0), command::change_key(0, 0, &[0; 16], 0)];
     let opened = |count: u16| files(&[open(0), command::crypt(0, count)]);
     let nothing = "call code cmd data out\nend 0 0\n";
     vec![
@@ -105,6 +107,7 @@ fn absent() -> Vec<Case> {
         Case::of("no cmd.bin", Files { cmd: None, ..files(&[]) }, "end 0 0").table(nothing).out(&[]),
         Case::of("an empty cmd.bin", files(&[]), "end 0 0").table(nothing).out(&[]),
         Case::of("no tray.bin, and a key of it", Files { tray: None, ..files(&[from_tray]) }, "end 0 10"),
+        Case::of("no tray.bin, and a change to a key of it", Files { tray: None, ..files(&changed) }, "end 1 10"),
         Case::of("no tray.bin, and none needed", Files { tray: None, ..opened(9) }, "end 2 0"),
         Case::of("no data.bin, and a byte of it", Files { data: None, ..opened(1) }, "end 1 11"),
         Case::of("no data.bin, and none needed", Files { data: None, ..opened(0) }, "end 2 0").out(&[]),
@@ -117,6 +120,6 @@ fn before() -> Vec<Case> {
     let all = published::each();
     let commands = [all[0].open(0), command::crypt(0, 32)];
     let some = Case::new("out.bin was longer", &commands, "end 2 0").data(vec![0; 32]).out(&all[0].stream[..32]);
-    let none = Case::new("out.bin was there and nothing is written", &[vec![7]], "end 0 2").out(&[]);
+    let none = Case::new("out.bin was there and nothing is written", &[vec![8]], "end 0 2").out(&[]);
     vec![some.stale(vec![9; 500]), none.stale(vec![9; 500])]
 }

@@ -32,6 +32,11 @@ fn state(cipher: u8) -> (Vec<u8>, [u8; 4]) {
     }
 }
 
+/// The last four bytes before 2^36 of a line that is there by an image of that state.
+pub fn last_four(cipher: u8) -> [u8; 4] {
+    state(cipher).1
+}
+
 /// An image of the cipher with that state at a position, and with number 1.
 pub fn image(cipher: u8, position: u64) -> Vec<u8> {
     images::image(cipher, position, 1, &state(cipher).0)

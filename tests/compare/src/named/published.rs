@@ -1,4 +1,5 @@
-//! Keystreams of annex C for the cases: one of 32 bytes or more for each cipher, and what opens a line with it.
+//! Keystreams of annex C for the cases: two of 32 bytes or more for each cipher, and what opens a line with them or
+//! changes a line's key to theirs.
 
 use crate::annex::{self, Row};
 use crate::cipher::{by_number, LAST};
@@ -31,6 +32,11 @@ impl Published {
         command::open_tray(line, self.cipher, number, &self.iv)
     }
 
+    /// Command 07 for the line, with the key of this number and from this position on.
+    pub fn change(&self, line: u8, number: u8, position: u64) -> Vec<u8> {
+        command::change_key(line, number, &self.iv, position)
+    }
+
     /// Whether the key is all zero.
     pub fn blank(&self) -> bool {
         self.key.iter().all(|&byte| byte == 0)
@@ -47,10 +53,16 @@ impl Published {
 
 /// For each cipher the last keystream of annex C that has 32 bytes or more and a key that isn't all zero.
 pub fn each() -> Vec<Published> {
+    pairs().into_iter().map(|[last, _]| last).collect()
+}
+
+/// For each cipher the last two such keystreams, the last one first.
+pub fn pairs() -> Vec<[Published; 2]> {
     let rows = annex::keystreams();
     let last = |cipher: u8| {
         let fits = |p: &Published| p.cipher == cipher && p.stream.len() >= 32 && !p.blank();
-        rows.iter().rev().filter_map(Published::of).find(fits)
+        let mut found = rows.iter().rev().filter_map(Published::of).filter(fits);
+        Some([found.next()?, found.next()?])
     };
     (1..=LAST).filter_map(last).collect()
 }
@@ -82,7 +94,12 @@ mod tests {
     use super::*;
 
     #[test]
-    fn each_cipher_has_one() {
-        assert!(each().iter().map(|p| p.cipher).eq(1..=LAST));
+    fn each_cipher_has_two() {
+        assert!(pairs().iter().map(|[p, _]| p.cipher).eq(1..=LAST));
+        for [one, other] in pairs() {
+            assert_eq!(one.cipher, other.cipher);
+            assert_ne!((one.key, one.iv), (other.key, other.iv));
+            assert_ne!(one.stream, other.stream);
+        }
     }
 }

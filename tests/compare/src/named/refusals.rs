@@ -1,6 +1,7 @@
-//! A case for each refusal, 1 to 14 and 16, and the same for each command that can meet it. Number 8 has its conditions
-//! in `images`, 12 its limits in `full`, 13 in `positions`, 14 in `numbers` and 16 in `blank`. The program never calls
-//! with an empty command, and doesn't come to as many parks as number 15 needs.
+//! A case for each refusal, 1 to 14 and 16 to 18, and the same for each command that can meet it. Number 8 has its
+//! conditions in `images`, 12 its limits in `full`, 13 in `positions`, 14 in `numbers`, 16 in `blank`, and 17, 18 and all
+//! that refuses a change of key in `waiting`. The program never calls with an empty command, and doesn't come to as many
+//! parks as number 15 needs.
 
 use super::published::name;
 use super::{altered, full, positions, Case};
@@ -19,7 +20,7 @@ pub fn open(line: u8) -> Vec<u8> {
 }
 
 /// One of each command for a line, operands 0 but for the cipher, which is 4, and the key, whose bytes are 1.
-pub fn each(line: u8) -> [Vec<u8>; 6] {
+pub fn each(line: u8) -> [Vec<u8>; 7] {
     [
         command::open_tray(line, 4, 0, &[0; 16]),
         command::open_own(line, 4, &[1; RECORD], &[0; 16]),
@@ -27,6 +28,7 @@ pub fn each(line: u8) -> [Vec<u8>; 6] {
         command::park(line),
         command::resume(line, &padded(&[4], IMAGE)),
         command::close(line),
+        command::change_key(line, 0, &[0; 16], 0),
     ]
 }
 
@@ -50,17 +52,21 @@ const ELEVEN: &str = "call code cmd data out\n1 0 51 0 0\n2 11 0 0 0\nend 1 11\n
 const THIRTEEN: &str = "call code cmd data out\n1 0 51 0 0\n2 0 2 0 165\n3 0 167 0 0\n4 13 0 0 0\nend 3 13\n";
 const FOURTEEN: &str = "call code cmd data out\n1 0 51 0 0\n2 0 2 0 165\n3 0 167 0 0\n4 14 0 0 0\nend 3 14\n";
 const SIXTEEN: &str = "call code cmd data out\n1 16 0 0 0\nend 0 16\n";
+const SEVENTEEN: &str = "call code cmd data out\n1 0 51 0 0\n2 0 27 0 0\n3 17 0 0 0\nend 2 17\n";
+const EIGHTEEN: &str = "call code cmd data out\n1 0 51 0 0\n2 0 27 0 0\n3 18 0 0 0\nend 2 18\n";
 
 /// One case for each number, with its table; that of 12 is long.
 fn numbers() -> Vec<Case> {
     let key = padded(&[1; 17], RECORD);
     let from_tray = || command::open_tray(0, 1, 0, &[0; 16]);
+    let one = || vec![1; RECORD];
     let far = altered::resumed(0, &positions::image(3, (1 << 36) - 1));
     let again = command::resume(7, &altered::written(1));
+    let change = |position: u64| command::change_key(0, 0, &[0; 16], position);
     vec![
         Case::new("no command left: no call, and 0", &[], "end 0 0").table("call code cmd data out\nend 0 0\n"),
         refused(1, "a crypt of three bytes", &[], vec![3, 0, 0]).table(ONE),
-        refused(2, "a first byte of 07", &[], vec![7, 0, 0, 0]).table(TWO),
+        refused(2, "a first byte of 08", &[], vec![8, 0, 0, 0]).table(TWO),
         refused(3, "a close of line 8", &[], vec![6, 8]).table(THREE),
         refused(4, "an open with cipher 7", &[], command::open_own(0, 7, &[1; RECORD], &[0; 16])).table(FOUR),
         refused(5, "an open on an open line", &[open(0)], open(0)).table(FIVE),
@@ -74,6 +80,10 @@ fn numbers() -> Vec<Case> {
         refused(13, "two bytes and one left", &far, vec![3, 0, 0, 2]).table(THIRTEEN),
         refused(14, "an image that was taken up", &altered::resumed(0, &altered::written(1)), again).table(FOURTEEN),
         refused(16, "an empty tray record", &[], from_tray()).tray(vec![0; RECORD]).table(SIXTEEN),
+        refused(17, "a park while a change waits", &[open(0), change(1)], command::park(0))
+            .tray(one())
+            .table(SEVENTEEN),
+        refused(18, "a change above 2^36", &[open(0), change(0)], change((1 << 36) + 1)).tray(one()).table(EIGHTEEN),
     ]
 }
 
@@ -119,7 +129,7 @@ fn images_without_a_number() -> Vec<Case> {
 /// First bytes that are no command, before operands that would do for any.
 fn unknown() -> Vec<Case> {
     let of = |first: u8| refused(2, format!("a command {first:02x}"), &[], padded(&[first], 2 + IMAGE));
-    [0x00, 0x07, 0x08, 0x0A, 0x10, 0x81, 0xFF].map(of).into()
+    [0x00, 0x08, 0x09, 0x0A, 0x10, 0x81, 0x87, 0xFF].map(of).into()
 }
 
 /// Line 7 is the last; each command for lines 8 and 255 is refused.

@@ -16,7 +16,8 @@ pub fn cases() -> Vec<Case> {
 /// Each command that needs an open line is refused with 6 after a park and after a close.
 fn idle(p: &Published) -> Vec<Case> {
     let ends = [("park", command::park(3)), ("close", command::close(3))];
-    let next = [("crypt", command::crypt(3, 0)), ("park", command::park(3)), ("close", command::close(3))];
+    let (crypt, change) = (command::crypt(3, 0), command::change_key(3, 0, &p.iv, 0));
+    let next = [("crypt", crypt), ("park", command::park(3)), ("close", command::close(3)), ("change", change)];
     let mut cases = Vec::new();
     for (ended, end) in &ends {
         for (name, command) in &next {
