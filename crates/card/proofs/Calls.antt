@@ -4,7 +4,7 @@ use mathlib.Core.Path.{ap}
 use mathlib.Core.List.{List}
 use Prim.Native.Nat.{ℕ}
 use Rattle.machine.specs.Machine.{Call}
-use Rattle.machine.specs.OneStream.{CallBytes}
+use Rattle.machine.specs.Calls.{CallBytes}
 use Rattle.card_outcome.specs.declared.Outcome.{Outcome}
 use Rattle.card_outcome.specs.Leaves.{CallLeaves}
 use Rattle.card.specs.declared.Card.{Card}

@@ -6,8 +6,7 @@ use mathlib.Core.List.{List, [], _∷_}
 use lib.ListN.{replicate}
 use Rattle.card_sizes.specs.Sizes.{cardSize}
 use Rattle.machine.specs.Machine.{Call, Seen, cardStep}
-use Rattle.machine.specs.Logs.{Made}
-use Rattle.machine.specs.OneStream.{CallBytes}
+use Rattle.machine.specs.Calls.{Made, CallBytes}
 use Rattle.card_layout.specs.Words.{cardIn}
 use Rattle.card_outcome.specs.Outcomes.{outcomeOf}
 use Rattle.card_outcome.specs.Leaves.{outOf, wordsOf}

@@ -15,7 +15,7 @@ use Rattle.command.specs.Decode.{lengthOf}
 use Rattle.command.specs.Rows.{unless}
 use Rattle.card_rows.specs.Rows.{changeRows, trayRows}
 use Rattle.machine.specs.Machine.{Line, MLine, View, plain, plainLine, shown, based, renewed, changed, refuseIf, decided}
-use Rattle.machine.specs.Logs.{lineOn}
+use Rattle.machine.specs.Calls.{lineOn}
 use Rattle.machine.proofs.Lines.{shown-based, start-shown}
 use Rattle.card_line.specs.Words.{withChange}
 use Rattle.card_line.proofs.Lines.{Plain}

@@ -6,17 +6,15 @@ ghost use mathlib.Core.List.{List};
 ghost use Prim.Native.Nat.{ℕ, _+_, _<_, _≤_};
 ghost use lib.ListN.{length};
 ghost use Rattle.card_sizes.specs.Sizes.{lineCount, keyLength, ivLength, changeLength, stateWords};
-ghost use Rattle.ciphers.specs.Table.{cipherAt};
 ghost use Rattle.command.specs.Decode.{numberOf};
 ghost use Rattle.command.specs.declared.Command.the-variants.{Change};
-ghost use Rattle.machine.specs.Logs.{lineOn};
+ghost use Rattle.machine.specs.Calls.{lineOn};
 ghost use Rattle.machine.specs.Machine.{based, shown, changed};
 ghost use Rattle.card_layout.specs.Words.{cardIn, putLine, Sound};
 ghost use Rattle.card_keys.specs.Keys.{keyBytes, changeWith};
 ghost use Rattle.card_outcome.specs.Leaves.{callOf, EffectLeaves, CommandLeaves};
 use card_keys::key_number;
 use card_keys::key_part;
-use card_open::first_state;
 use card_outcome::Outcome;
 use card_outcome::accepted;
 use card_outcome::refused;
@@ -30,6 +28,7 @@ use ciphers::number_of;
 use command::Cipher;
 use command::CipherRead;
 use command::read_cipher;
+use dispatch::first_state;
 
 // Line i, which is open with this cipher, is to change at position p to the stream that begins with this state.
 fn put_stream(card: &mut [u32], i: u8, cipher: Cipher, p: u64, state: &[u32])

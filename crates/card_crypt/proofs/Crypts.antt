@@ -18,7 +18,7 @@ use Rattle.command.specs.Rows.{unless}
 use Rattle.command.specs.Decode.{lengthOf}
 use Rattle.card_rows.specs.Rows.{cryptRows}
 use Rattle.card_line.proofs.Lines.{Plain}
-use Rattle.machine.specs.Logs.{lineOn}
+use Rattle.machine.specs.Calls.{lineOn}
 use Rattle.card_layout.specs.Words.{cardIn}
 use Rattle.card_outcome.specs.Leaves.{callOf, publicOf}
 use Rattle.card_outcome.proofs.Laws.{view-is}

@@ -5,36 +5,14 @@ use mathlib.Core.Bool.{Bool, true, false, not, true≢false}
 use mathlib.Core.List.{List, [], _∷_}
 use Prim.Native.Nat.{ℕ, zero, suc, _+_, _≤_}
 use native.Mathlib.Omega.{arith}
-use lib.Dec.{lit≤}
 use lib.ListN.{length, take, drop, length-drop}
 use lib.Seq.{length-take-le}
 use Rattle.words.specs.Tests.{both, pick}
 use Rattle.card_sizes.specs.Sizes.{keyLength}
-use Rattle.ciphers.specs.Table.{cipherAt, zuc, rabbit, snow128, snow256, kcipher2, mugi, allZero}
+use Rattle.ciphers.specs.Table.{cipherAt, allZero}
 use Rattle.words.proofs.Tests.{both-true, both-false}
-use Rattle.command.specs.declared.Cipher.{Cipher}
-use Rattle.command.specs.declared.Cipher.the-variants.{Zuc, Rabbit, Snow128, Snow256, Kcipher2, Mugi}
-use Rattle.command.specs.Decode.{numberOf}
 use Rattle.machine.specs.Machine.{spareUsed, blankKey}
 use Rattle.card_keys.specs.Keys.{keyCode, Handed}
-
-pub key-fits : (c : Cipher) → cipherAt (numberOf c) .key ≤ 32
-unfolding cipherAt zuc rabbit snow128 snow256 kcipher2 mugi
-key-fits Zuc = lit≤ tt
-key-fits Rabbit = lit≤ tt
-key-fits Snow128 = lit≤ tt
-key-fits Snow256 = lit≤ tt
-key-fits Kcipher2 = lit≤ tt
-key-fits Mugi = lit≤ tt
-
-pub iv-fits : (c : Cipher) → cipherAt (numberOf c) .iv ≤ 16
-unfolding cipherAt zuc rabbit snow128 snow256 kcipher2 mugi
-iv-fits Zuc = lit≤ tt
-iv-fits Rabbit = lit≤ tt
-iv-fits Snow128 = lit≤ tt
-iv-fits Snow256 = lit≤ tt
-iv-fits Kcipher2 = lit≤ tt
-iv-fits Mugi = lit≤ tt
 
 module _ (c k v : ℕ) (key iv : List ℕ) (ek : k ≡ cipherAt c .key) (ev : v ≡ cipherAt c .iv) where
   spare-is : (b : Bool) → both (allZero (drop k key)) (allZero (drop v iv)) ≡ b → spareUsed c key iv ≡ not b

@@ -12,7 +12,7 @@ use lib.Seq.{length-take-le, drop-drop, drop-at, take-at, take-add, drop-cons}
 use Rattle.card_sizes.specs.Sizes.{lineSize, lineCount, cardSize}
 use Rattle.machine.specs.Machine.{Line, idleLine, withLineSeen, withParksSeen, freshCard}
 use Rattle.machine.specs.Parks.{Parks}
-use Rattle.machine.specs.Logs.{lineOn}
+use Rattle.machine.specs.Calls.{lineOn}
 use Rattle.card_line.specs.Words.{lineIn, lineWords, LineHeld}
 use Rattle.card_layout.specs.Words.{wordsAt, linesIn, linesWords, parksIn, parksWords, cardIn, cardWords, putLine, putParks, Held, Sound}
 use Rattle.card_line.proofs.Lines.{Plain, line-read, line-length}

@@ -5,7 +5,7 @@ ghost use Prim.Native.Nat.{_<_};
 ghost use lib.ListN.{length};
 ghost use Rattle.card_sizes.specs.Sizes.{stateWords, lineCount, cardSize};
 ghost use Rattle.machine.specs.Machine.{plainLine, idleLine};
-ghost use Rattle.machine.specs.Logs.{lineOn};
+ghost use Rattle.machine.specs.Calls.{lineOn};
 ghost use Rattle.card_line.specs.Words.{withChange};
 ghost use Rattle.card_layout.specs.Words.{cardIn, putLine, Sound};
 use card_sizes::LINE;

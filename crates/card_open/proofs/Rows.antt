@@ -1,7 +1,7 @@
--- What the rows of an open ask of the tray and of the key, and the line that an open puts.
+-- What the rows of an open ask of the tray, and the line that an open puts.
 -- Assumes nothing.
 use mathlib.Core.Path.{_≡_, refl, ap, sym, _∙_}
-use mathlib.Core.Bool.{Bool, true, false, not}
+use mathlib.Core.Bool.{false, not}
 use mathlib.Core.List.{List}
 use Prim.Native.Nat.{ℕ, _*_, _<_}
 use native.Mathlib.Omega.{arith}
@@ -15,17 +15,14 @@ use Rattle.command.specs.declared.Cipher.{Cipher}
 use Rattle.command.specs.declared.Cipher.the-variants.{Zuc, Rabbit, Snow128, Snow256, Kcipher2, Mugi}
 use Rattle.command.specs.Decode.{numberOf, lengthOf}
 use Rattle.card_rows.specs.Rows.{trayRows}
-use Rattle.machine.specs.Machine.{View, Effect, plainLine, shown, opened, spareUsed, blankKey, refuseIf, decided}
-use Rattle.machine.specs.Logs.{lineOn}
+use Rattle.machine.specs.Machine.{View, plainLine, shown, opened, refuseIf, decided}
+use Rattle.machine.specs.Calls.{lineOn}
 use Rattle.card_layout.specs.Words.{cardIn}
-use Rattle.machine.proofs.OneStream.{opened-shown}
+use Rattle.machine.proofs.Lines.{opened-shown}
 use Rattle.card_line.proofs.Lines.{Plain}
-use Rattle.card_keys.specs.Keys.{keyBytes, keyCode, keyedWith, openWith}
-use Rattle.card_keys.proofs.Spare.{code-used, code-blank, code-none, none-by}
-use Rattle.card_outcome.specs.declared.Outcome.{Outcome}
-use Rattle.card_outcome.specs.Outcomes.{refusal}
-use Rattle.card_outcome.specs.Leaves.{callOf, publicOf, EffectLeaves}
-use Rattle.card_outcome.proofs.Laws.{view-is, given-true, given-false, given-refusal}
+use Rattle.card_keys.specs.Keys.{keyBytes, openWith}
+use Rattle.card_outcome.specs.Leaves.{callOf, publicOf}
+use Rattle.card_outcome.proofs.Laws.{view-is}
 
 -- the rows of an open with a key of the tray, by what is read of its line
 pub tray-decided : (ws : List ℕ) (i : ℕ) (c : Cipher) (k : ℕ) (command tray text out : List ℕ) {m : ℕ} → m ≡ lineOn (cardIn ws) i .mode →
@@ -51,23 +48,3 @@ number-small Mugi = lit≤ tt
 
 pub opened-plain : (c : Cipher) (w : List ℕ) → length w ≡ stateWords → Plain (plainLine 1 (numberOf c) 0 w)
 opened-plain c w e = record { mode = omega arith; cipher = number-small c; full = e; waits-full = refl }
-
--- what a key's number refuses, and what it lets pass
-module _ (ws text out : List ℕ) where
-  pub given-code : (e' : Effect) (c : ℕ) (key iv : List ℕ) {k : ℕ} {r : Outcome} → k ≡ keyCode c key iv → (keyCode c key iv ≡ 0 → ⊥) → r ≡ refusal k →
-      EffectLeaves ws text out (keyedWith c key iv e') r ws out
-  given-code e' c key iv {k} {r} e f g = by (spareUsed c key iv) (blankKey c key) refl refl
-    where
-      says : {n : ℕ} → n ≡ keyCode c key iv → r ≡ refusal n
-      says h = g ∙ ap refusal (e ∙ sym h)
-
-      by : (b d : Bool) → spareUsed c key iv ≡ b → blankKey c key ≡ d → EffectLeaves ws text out (keyedWith c key iv e') r ws out
-      by true d h l = given-true ws text out _ 7 _ h (given-refusal ws text out 7 (λ z. omega arith) (says (code-used c key iv h)))
-      by false true h l =
-          given-false ws text out _ 7 _ h
-          (given-true ws text out _ 16 _ l (given-refusal ws text out 16 (λ z. omega arith) (says (code-blank c key iv h l))))
-      by false false h l = absurd (f (sym (code-none c key iv h l)))
-
-  pub given-key : (e : Effect) (c : ℕ) (key iv : List ℕ) → keyCode c key iv ≡ 0 → {r : Outcome} {ws' o : List ℕ} → EffectLeaves ws text out e r ws' o →
-      EffectLeaves ws text out (keyedWith c key iv e) r ws' o
-  given-key e c key iv z g = let n = none-by c key iv z in given-false ws text out _ 7 _ (n .0) (given-false ws text out _ 16 _ (n .1) g)

@@ -3,12 +3,10 @@
 ghost use mathlib.Core.Path.{_≡_};
 ghost use mathlib.Core.List.{List};
 ghost use Prim.Native.Nat.{ℕ, _+_, _<_, _≤_};
-ghost use lib.ListN.{length, take, drop};
+ghost use lib.ListN.{length};
 ghost use Rattle.words.specs.Tests.{pick};
 ghost use Rattle.card_sizes.specs.Sizes.{lineCount, keyLength, ivLength, trayLength, ownLength};
-ghost use Rattle.ciphers.specs.Table.{cipherAt};
 ghost use Rattle.command.specs.Decode.{numberOf};
-ghost use Rattle.machine.specs.Machine.{ivFor};
 ghost use Rattle.command.specs.declared.Command.the-variants.{Tray, Own};
 ghost use Rattle.card_layout.specs.Words.{Sound};
 ghost use Rattle.card_keys.specs.Keys.{keyBytes, openWith};
@@ -23,22 +21,11 @@ use card_sizes::KEY;
 use card_sizes::OWN;
 use card_sizes::OWN_IV;
 use card_sizes::OWN_KEY;
-use card_sizes::STATE;
 use card_sizes::TRAY;
 use card_sizes::TRAY_IV;
-use ciphers::iv_of;
 use ciphers::number_of;
 use command::Cipher;
-
-// S(0) of a key in the cipher's own length and of the bytes of an IV that the cipher takes.
-pub fn first_state(cipher: Cipher, key: &[u8], iv: &[u8]) -> [u32; STATE]
-    requires { ⌜ length (now key) ≡ cipherAt (numberOf cipher) .key ⌝ }
-    requires { ⌜ length (now iv) ≡ ivLength ⌝ }
-    ensures { λ r. ⌜ r ≡ cipherAt (numberOf cipher) .init (now (key .entry)) (ivFor (numberOf cipher) (now (iv .entry))) ⌝ }
-{
-    let v = iv_of(cipher);
-    dispatch::open(cipher, key, &iv[..v])
-}
+use dispatch::first_state;
 
 // Line i is opened with the key that is handed out and an IV, or refused with the key's number where none is.
 fn open_line<'a>(

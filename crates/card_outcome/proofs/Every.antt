@@ -10,10 +10,8 @@ use borrow.Author.Tests.{eqb-false}
 use Rattle.words.specs.Tests.{pick}
 use Rattle.card_sizes.specs.Sizes.{lineCount, cardSize}
 use Rattle.machine.specs.Machine.{Machine, Seen, Shown, Call, Effect, refuse, put, crypt, park, resume, change, idle, seen, shows, public, decide, perform, step, cardStep, freshMachine}
-use Rattle.machine.specs.Logs.{Made, madeOf, callsOf}
-use Rattle.machine.specs.OneStream.{CallBytes}
-use Rattle.machine.proofs.Simulation.{GoodCard, step-same, step-good, fresh-good}
-use Rattle.machine.proofs.OneStream.{fresh-seen}
+use Rattle.machine.specs.Calls.{Made, madeOf, callsOf, CallBytes}
+use Rattle.machine.proofs.Simulation.{GoodCard, step-same, step-good, fresh-good, fresh-seen}
 use Rattle.card_layout.specs.Words.{cardIn, cardWords}
 use Rattle.card_layout.proofs.Cards.{fresh-words}
 use Rattle.card_layout.proofs.Back.{seen-read, seen-length}

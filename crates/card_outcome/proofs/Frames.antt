@@ -10,10 +10,11 @@ use Rattle.command.specs.declared.Command.the-variants.{Crypt}
 use Rattle.command.specs.declared.Decoded.the-variants.{Run}
 use Rattle.command.specs.Decode.{decodeOf}
 use Rattle.machine.specs.Machine.{Seen, Call, cardStep, freshCard}
-use Rattle.machine.specs.Logs.{Made, cardAfter, lineOn, did, did-park, did-resume}
-use Rattle.machine.specs.OneStream.{AllBytes, Stands, OneStream}
+use Rattle.machine.specs.Calls.{Made, cardAfter, lineOn, AllBytes}
+use Rattle.lists.specs.Logs.{did, did-park, did-resume}
+use Rattle.lists.specs.OneStream.{Stands, OneStream}
 use Rattle.machine.proofs.Frames.{Frame, frames-back}
-use Rattle.machine.proofs.Trunk.{taken-up}
+use Rattle.lists.proofs.Trunk.{taken-up}
 use Rattle.card_layout.specs.Words.{cardIn}
 use Rattle.card_outcome.specs.declared.Outcome.{Outcome}
 use Rattle.card_outcome.specs.Outcomes.{outcomeOf}

@@ -19,7 +19,7 @@ use Rattle.command.specs.Rows.{Row, unless, codeOf}
 use Rattle.command.proofs.Rows.{AllPassed, code-yes, code-no}
 use Rattle.machine.specs.Machine.{Line, MLine, View, Seen, noView, Effect, refuse, put, crypt, park, resume, change, refuseIf, idle, idleLine, based, shown, moved, enciphered, changed, viewOf, viewAt, isIdle, isOpen, lineOk, openOk, idleOk, allOk, imageOf, back, seen, withLine, withLineSeen, withParksSeen}
 use Rattle.machine.specs.Parks.{Parks, lastPark, noMore, numberNow, parked, holds, taken, parksOk}
-use Rattle.machine.specs.Logs.{lineOn}
+use Rattle.machine.specs.Calls.{lineOn}
 use Rattle.machine.proofs.Moves.{enciphered-length}
 use Rattle.machine.proofs.Lines.{shown-based, shown-idle}
 use Rattle.machine.proofs.Seen.{seen-back, seen-with}

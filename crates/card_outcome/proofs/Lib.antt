@@ -1,4 +1,5 @@
 pub mod Laws
+pub mod Keyed
 pub mod Entry
 pub mod Refusals
 pub mod Every

@@ -13,7 +13,7 @@ use Rattle.command.specs.Rows.{unless}
 use Rattle.card_rows.specs.Rows.{parkRows}
 use Rattle.machine.specs.Machine.{View, Effect, park, refuseIf, decided}
 use Rattle.machine.specs.Parks.{noMore}
-use Rattle.machine.specs.Logs.{lineOn}
+use Rattle.machine.specs.Calls.{lineOn}
 use Rattle.card_layout.specs.Words.{cardIn}
 use Rattle.card_outcome.specs.Leaves.{callOf, publicOf}
 use Rattle.card_outcome.proofs.Laws.{view-is}

@@ -1,4 +1,5 @@
 pub mod States
+pub mod Rows
 pub mod Sound
 pub mod Numbers
 pub mod Along

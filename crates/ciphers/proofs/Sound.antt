@@ -2,13 +2,11 @@
 -- what it fills.
 -- Assumes nothing.
 use mathlib.Core.Path.{_≡_}
-use mathlib.Core.Bool.{Bool, true, false}
 use mathlib.Core.List.{List}
 use Prim.Native.Nat.{ℕ, zero, _<_}
-use lib.Dec.{lit<, eqb}
+use lib.Dec.{lit<}
 use lib.ListN.{length}
 use Rattle.words.specs.Lists.{All, Byte}
-use Rattle.words.specs.Tests.{pick}
 use Rattle.zuc.specs.Range as ZR
 use Rattle.zuc.proofs.Ranges as Z
 use Rattle.rabbit.specs.Range as RR
@@ -21,6 +19,7 @@ use Rattle.mugi.specs.Range as MR
 use Rattle.mugi.proofs.Ranges as M
 use Rattle.ciphers.specs.Table.{CipherRow, Interface, rowOf, zucFace, zuc, rabbitFace, rabbit, snow128Face, snow128, snow256Face, snow256, kcipher2Face, kcipher2, mugiFace, mugi, cipherAt}
 use Rattle.ciphers.specs.Fit.{Fit}
+use Rattle.ciphers.proofs.Rows.{every-row}
 use Rattle.ciphers.proofs.States.{zuc-back, zuc-fit, zuc-range, zuc-held, rabbit-back, rabbit-fit, rabbit-range, rabbit-held, snow2-back, snow128-fit, snow256-fit, snow2-range, snow2-held, kcipher2-back, kcipher2-fit, kcipher2-range, kcipher2-held, mugi-back, mugi-fit, mugi-range, mugi-held}
 
 pub record Sound (c : CipherRow) : Type 0 where
@@ -148,16 +147,9 @@ mugi-laws =
 
 -- ---- by number
 
-either : (b : Bool) (x y : CipherRow) → Sound x → Sound y → Sound (pick b x y)
-either true x y h k = h
-either false x y h k = k
-
 -- every number's cipher is sound
 pub sound : (c : ℕ) → Sound (cipherAt c)
-unfolding cipherAt zuc rabbit snow128 snow256 kcipher2 mugi
-sound c =
-    either (eqb c 1) _ _ (sound-row zucFace ZR.InRange zuc-laws)
-    (either (eqb c 2) _ _ (sound-row rabbitFace RR.InRange rabbit-laws)
-    (either (eqb c 3) _ _ (sound-row snow128Face SR.InRange snow128-laws)
-    (either (eqb c 4) _ _ (sound-row snow256Face SR.InRange snow256-laws)
-    (either (eqb c 5) _ _ (sound-row kcipher2Face KR.InRange kcipher2-laws) (sound-row mugiFace MR.InRange mugi-laws)))))
+unfolding zuc rabbit snow128 snow256 kcipher2 mugi
+sound =
+    every-row Sound (sound-row zucFace ZR.InRange zuc-laws) (sound-row rabbitFace RR.InRange rabbit-laws) (sound-row snow128Face SR.InRange snow128-laws)
+    (sound-row snow256Face SR.InRange snow256-laws) (sound-row kcipher2Face KR.InRange kcipher2-laws) (sound-row mugiFace MR.InRange mugi-laws)

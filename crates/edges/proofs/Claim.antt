@@ -13,10 +13,10 @@ use Rattle.card_moves.specs.Moves.{comesDue, positionOn}
 use Rattle.machine.specs.Machine.{MLine, plain, shown, based, imageOf, imageLine, byteOf, limit, decided, refuseIf, spareUsed, blankKey}
 use Rattle.machine.specs.Parks.{noMore}
 use Rattle.words.specs.Lists.{Word}
-use Rattle.machine.specs.OneStream.{GoesOn}
+use Rattle.lists.specs.OneStream.{GoesOn}
 use Rattle.machine.proofs.Lines.{none-waits, good-open, good-behind, Good}
-use Rattle.machine.proofs.Images.{image-goes-on}
-use Rattle.machine.proofs.OneStream.{sized}
+use Rattle.lists.proofs.Images.{image-goes-on}
+use Rattle.lists.proofs.OneStream.{sized}
 use Rattle.cases.specs.Table.{Row}
 use Rattle.edges.specs.Table.{table, crypting, spanning, parking, parkingBefore, opening, changing}
 

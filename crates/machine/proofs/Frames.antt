@@ -1,6 +1,6 @@
 -- Two frames: an accepted crypt writes its data enciphered from where its line stands, so that two crypts whose lines are seen alike give each other's text back.
 -- Assumes nothing.
-use mathlib.Core.Path.{_≡_, refl, ap, ap₂, sym, _∙_}
+use mathlib.Core.Path.{_≡_, refl, ap, ap₂, _∙_}
 use mathlib.Core.List.{List, [], _∷_, map}
 use Prim.Native.Nat.{ℕ, zero, suc}
 use native.Mathlib.Omega.{arith}
@@ -11,7 +11,7 @@ use Rattle.command.specs.declared.Command.the-variants.{Crypt}
 use Rattle.command.specs.declared.Decoded.the-variants.{Run}
 use Rattle.command.specs.Decode.{decodeOf}
 use Rattle.machine.specs.Machine.{Line, MLine, Machine, Seen, Call, Effect, idle, idleLine, based, enciphered, lineAt, back, public, decided, decide, perform, step, cardStep}
-use Rattle.machine.specs.Logs.{lineOn}
+use Rattle.machine.specs.Calls.{lineOn}
 use Rattle.command.proofs.Rows.{not-zero}
 use Rattle.machine.proofs.Rows.{decided-by}
 use Rattle.machine.proofs.Codes.{of-card}

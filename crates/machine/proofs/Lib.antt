@@ -5,14 +5,6 @@ pub mod Lines
 pub mod Rows
 pub mod Simulation
 pub mod Seen
-pub mod Images
-pub mod Explained
-pub mod Streams
-pub mod OneStream
-pub mod Parking
-pub mod Counted
-pub mod Trunk
 pub mod Codes
 pub mod Deciphers
 pub mod Frames
-pub mod Steps

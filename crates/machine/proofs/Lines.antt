@@ -66,6 +66,11 @@ start-shown m c s =
     let e : stateAt g s 0 (0 / g .unit) ≡ s = ap (stateAt g s 0) (div-eq-of-lt (unit-pos c)) ∙ stateAt-here g (unit-pos c) s 0 in
     ap (plainLine m c 0) e
 
+-- and one that is opened
+pub opened-shown : (c : ℕ) (key iv : List ℕ) → shown (opened c key iv) ≡ plainLine 1 c 0 (cipherAt c .init key iv)
+unfolding opened
+opened-shown c key iv = start-shown 1 c (cipherAt c .init key iv)
+
 -- every S(i) fits
 pub state-fit : (l : MLine) (i : ℕ) → Fit (cipherAt (l .cipher)) (l .base) → Fit (cipherAt (l .cipher)) (stateOf l i)
 unfolding stateOf stateAt

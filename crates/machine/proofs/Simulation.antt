@@ -4,7 +4,7 @@
 use mathlib.Core.Path.{_≡_, refl, ap, ap₂, sym, _∙_, subst}
 use mathlib.Core.Bool.{Bool, true, false, not}
 use mathlib.Core.List.{List, [], _∷_, map}
-use Prim.Native.Nat.{ℕ, zero, suc, _+_, _*_, _≤_}
+use Prim.Native.Nat.{ℕ, zero, suc, _*_, _≤_}
 use lib.Dec.{ltb}
 use lib.ListN.{length, getD, take, set, replicate}
 use borrow.Author.Tests.{ltb-false, eqb-true, not-false}
@@ -24,9 +24,9 @@ use Rattle.command.specs.declared.Decoded.{Decoded}
 use Rattle.command.specs.declared.Decoded.the-variants.{Run, Refused}
 use Rattle.command.specs.Decode.{decodeOf, numberOf, operandsOf}
 use Rattle.card_moves.specs.Moves.{positionOn}
-use Rattle.machine.specs.Machine.{Line, MLine, Machine, idle, shown, based, moved, enciphered, changed, imageOf, lineAt, seen, back, lineCount, View, noView, viewOf, public, viewAt, isOpen, waits, limit, keyField, ivField, streamOf, Call, Effect, refuse, put, crypt, park, resume, change, effectOf, ofDecoded, decide, answer, perform, step, shows, cardStep, freshMachine}
-use Rattle.machine.specs.Parks.{numberNow, parked, taken, parksOk}
-use Rattle.machine.specs.OneStream.{CallBytes}
+use Rattle.machine.specs.Machine.{Line, MLine, Machine, idle, shown, based, moved, enciphered, changed, imageOf, lineAt, seen, back, lineCount, View, noView, viewOf, public, viewAt, isOpen, waits, limit, keyField, ivField, streamOf, Call, Effect, refuse, put, crypt, park, resume, change, effectOf, ofDecoded, decide, answer, perform, step, shows, cardStep, freshMachine, freshCard}
+use Rattle.machine.specs.Parks.{freshParks, numberNow, parked, taken, parksOk}
+use Rattle.machine.specs.Calls.{CallBytes}
 use Rattle.machine.proofs.Lines.{Good, good-idle, shown-idle, shown-based, all-ok, opened-good, resumed-good, stream-fit, moved-same, crypted-same, changed-same, moved-good, changed-good, good-behind}
 use Rattle.machine.proofs.Parks.{parked-ok, taken-ok, fresh-ok, parked-long, taken-long}
 use Rattle.machine.proofs.Rows.{Passed, passed, decided-by}
@@ -59,6 +59,9 @@ fresh-good = record { lines = eight 8; parks = fresh-ok; long = refl }
     eight : (k : ℕ) → AllGood (replicate k idle)
     eight zero = none-good
     eight (suc k) = more-good good-idle (eight k)
+
+pub fresh-seen : seen freshMachine ≡ freshCard
+fresh-seen = λ i. record { lines = replicate lineCount (shown-idle i); parks = freshParks }
 
 -- ---- what a decision is
 

@@ -12,7 +12,7 @@ use borrow.Author.Tests.{eq-eqb, ne-eqb}
 use Rattle.words.specs.Tests.{pick}
 use Rattle.card_sizes.specs.Sizes.{cardSize}
 use Rattle.machine.specs.Machine.{Call, cardStep}
-use Rattle.machine.specs.OneStream.{CallBytes}
+use Rattle.machine.specs.Calls.{CallBytes}
 use Rattle.card_layout.specs.Words.{cardIn}
 use Rattle.card_outcome.specs.declared.Outcome.{Outcome}
 use Rattle.card_outcome.specs.Outcomes.{outcomeOf}

@@ -9,7 +9,7 @@ use lib.ListN.{length}
 use Rattle.words.specs.Tests.{pick}
 use Rattle.card_sizes.specs.Sizes.{cardSize}
 use Rattle.machine.specs.Machine.{Call, Shown, cardStep}
-use Rattle.machine.specs.OneStream.{CallBytes}
+use Rattle.machine.specs.Calls.{CallBytes}
 use Rattle.card_layout.specs.Words.{cardIn}
 use Rattle.card_outcome.specs.Leaves.{outOf, wordsOf}
 

@@ -5,7 +5,7 @@ use mathlib.Core.List.{List, [], _∷_}
 use Prim.Native.Nat.{ℕ}
 use lib.ListN.{length, getD}
 use Rattle.machine.specs.Machine.{Call}
-use Rattle.machine.specs.Logs.{Made}
+use Rattle.machine.specs.Calls.{Made}
 use Rattle.card_layout.specs.Words.{cardIn}
 use Rattle.pipeshear.specs.Calls.{EntryPromise}
 

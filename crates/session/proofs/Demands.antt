@@ -13,12 +13,12 @@ use Rattle.words.specs.Lists.{All, Byte}
 use Rattle.words.specs.Tests.{pick}
 use Rattle.words.proofs.Ranges.{all-drop}
 use Rattle.machine.specs.Machine.{Call, Seen, cardStep, freshCard}
-use Rattle.machine.specs.Logs.{Made}
-use Rattle.machine.specs.OneStream.{OneStream}
-use Rattle.machine.specs.Counted.{Counted}
-use Rattle.machine.specs.Parking.{ParkedCalls}
-use Rattle.machine.specs.Steps.{Steps, none, step}
-use Rattle.machine.proofs.Steps.{steps-one-stream, steps-counted, steps-parked-calls}
+use Rattle.machine.specs.Calls.{Made}
+use Rattle.lists.specs.OneStream.{OneStream}
+use Rattle.lists.specs.Counted.{Counted}
+use Rattle.lists.specs.Parking.{ParkedCalls}
+use Rattle.lists.specs.Steps.{Steps, none, step}
+use Rattle.lists.proofs.Steps.{steps-one-stream, steps-counted, steps-parked-calls}
 use Rattle.ciphers.proofs.States.{all-take}
 use Rattle.session.specs.declared.Ended.{Ended}
 use Rattle.session.specs.Progress.{RunPromise}

@@ -7,7 +7,7 @@ use native.Mathlib.Nat.{min-le-right}
 use native.Mathlib.Omega.{arith}
 use lib.ListN.{length, take, drop, length-take}
 use lib.Seq.{take-at}
-use Rattle.machine.specs.Logs.{Made}
+use Rattle.machine.specs.Calls.{Made}
 use Rattle.session.specs.declared.Ended.{Ended}
 use Rattle.session.specs.Session.{writtenBy, tableOf}
 use Rattle.session.specs.Progress.{RunLeaves}

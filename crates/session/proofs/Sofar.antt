@@ -14,7 +14,7 @@ use lib.Seq.{length-take-le, take-at, drop-at, drop-drop, take-append-add, drop-
 use borrow.Author.Tests.{eq-eqb, ne-eqb, eqb-true}
 use Rattle.words.specs.Tests.{pick}
 use Rattle.machine.specs.Machine.{Call, Seen, cardStep, freshCard}
-use Rattle.machine.specs.Logs.{Made}
+use Rattle.machine.specs.Calls.{Made}
 use Rattle.card_line.specs.Words.{lineIn}
 use Rattle.card_layout.specs.Words.{cardIn}
 use Rattle.card_outcome.specs.Leaves.{callOf}

@@ -6,7 +6,7 @@ use Prim.Native.Nat.{ℕ, _+_, _-_, _≤_, _<_}
 use lib.ListN.{length, take, drop}
 use Rattle.words.specs.Lists.{All, Byte}
 use Rattle.machine.specs.Machine.{Call, freshCard}
-use Rattle.machine.specs.Logs.{Made}
+use Rattle.machine.specs.Calls.{Made}
 use Rattle.card_outcome.specs.Leaves.{callOf}
 use Rattle.card.specs.Ran.{seenOf, fresh}
 use Rattle.session_table.specs.Table.{Behind, columns, callRow, acceptedOf}

@@ -7,7 +7,7 @@ use lib.Dec.{eqb}
 use lib.ListN.{length, take, drop}
 use Rattle.words.specs.Tests.{pick}
 use Rattle.machine.specs.Machine.{Call, Seen, cardStep, freshCard}
-use Rattle.machine.specs.Logs.{Made, madeOf}
+use Rattle.machine.specs.Calls.{Made, madeOf}
 use Rattle.session_table.specs.Table.{columns, callRow, endOf}
 
 -- ---- the calls

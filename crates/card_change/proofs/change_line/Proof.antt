@@ -10,12 +10,13 @@ use Rattle.card_sizes.specs.Sizes.{stateWords, keyLength, changeLength}
 use Rattle.ciphers.specs.Table.{cipherAt}
 use Rattle.command.specs.Decode.{numberOf}
 use Rattle.machine.specs.Machine.{based, shown, changed, ivFor, streamOf}
-use Rattle.machine.specs.Logs.{lineOn}
+use Rattle.machine.specs.Calls.{lineOn}
 use Rattle.card_layout.specs.Words.{cardIn, putLine}
 use Rattle.card_keys.specs.Keys.{keyCode}
-use Rattle.card_keys.proofs.Spare.{key-fits, handed-code, nothing-code, field-full}
+use Rattle.ciphers.proofs.Rows.{key-fits}
+use Rattle.card_keys.proofs.Spare.{handed-code, nothing-code, field-full}
 use Rattle.card_outcome.proofs.Laws.{sound-plain, given-change}
-use Rattle.card_open.proofs.Rows.{given-code, given-key}
+use Rattle.card_outcome.proofs.Keyed.{given-code, given-key}
 use Rattle.card_change.proofs.Changes.{changed-plain}
 use borrow.Author.Needs.{needs}
 use Rattle.card_change.proofs.change_line.Statement.{statement}
@@ -62,7 +63,7 @@ first-state-requires c κs =
     let p = c .before in
     let s = start p in
     let a = s .args in
-    let f = key-fits (a .cipher) in
+    let f = key-fits (numberOf (a .cipher)) in
     let g = field-full (a .at) (a .tray .now) (s .pre .1 .1 .0) in
     (ap length (key-is c) ∙ length-take-le _ (field p) (omega (arith, f, g)), s .pre .1 .1 .1)
 

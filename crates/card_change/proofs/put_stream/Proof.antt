@@ -3,7 +3,7 @@
 use mathlib.Core.Path.{_≡_, ap, sym, _∙_}
 use Prim.Native.Nat.{ℕ}
 use Rattle.machine.specs.Machine.{Line, plainLine}
-use Rattle.machine.specs.Logs.{lineOn}
+use Rattle.machine.specs.Calls.{lineOn}
 use Rattle.card_layout.specs.Words.{cardIn, putLine}
 use Rattle.card_change.proofs.Changes.{at-once, later}
 use borrow.Author.Needs.{needs}

@@ -17,7 +17,7 @@ use Rattle.command.proofs.Rows.{AllPassed, code-passed}
 use Rattle.card_rows.specs.Rows.{changeRows, trayRows}
 use Rattle.card_rows.proofs.Codes.{change-passed, tray-passed}
 use Rattle.machine.specs.Machine.{Line, Effect, refuseIf}
-use Rattle.machine.specs.Logs.{lineOn}
+use Rattle.machine.specs.Calls.{lineOn}
 use Rattle.machine.proofs.Lines.{open-state, state-cipher}
 use Rattle.card_layout.specs.Words.{cardIn}
 use Rattle.card_keys.specs.Keys.{keyBytes, changeWith}

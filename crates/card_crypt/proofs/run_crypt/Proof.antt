@@ -14,7 +14,7 @@ use Rattle.card_rows.specs.Rows.{cryptRows}
 use Rattle.card_moves.specs.Moves.{positionOn}
 use Rattle.card_rows.proofs.Codes.{CryptPassed, crypt-passed}
 use Rattle.machine.specs.Machine.{Line, Effect, crypt, refuseIf, openOk, based, shown, moved, enciphered, limit}
-use Rattle.machine.specs.Logs.{lineOn}
+use Rattle.machine.specs.Calls.{lineOn}
 use Rattle.card_line.specs.Words.{lineIn, lineWords}
 use Rattle.card_layout.specs.Words.{cardIn}
 use Rattle.card_layout.proofs.Cards.{part-held, line-part, part-put}

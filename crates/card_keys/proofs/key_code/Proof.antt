@@ -2,16 +2,17 @@
 -- Assumes nothing.
 use Prim.Native.Nat.{ℕ, _≤_}
 use mathlib.Core.Path.{_≡_, ap, sym, _∙_}
-use mathlib.Core.Bool.{true, false}
+use mathlib.Core.Bool.{false}
 use native.Mathlib.Omega.{arith}
-use lib.ListN.{length, drop}
+use lib.ListN.{length}
 use lib.Seq.{length-take-le}
 use borrow.Author.Tests.{not-true, not-false}
 use Rattle.keystream.proofs.Parts.{tail-part}
 use Rattle.ciphers.specs.Table.{allZero}
 use Rattle.command.specs.Decode.{numberOf}
 use Rattle.machine.specs.Machine.{spareUsed}
-use Rattle.card_keys.proofs.Spare.{key-fits, iv-fits, spare-key, spare-iv, spare-none, blank-is, code-used, code-blank, code-none}
+use Rattle.ciphers.proofs.Rows.{key-fits, iv-fits}
+use Rattle.card_keys.proofs.Spare.{spare-key, spare-iv, spare-none, blank-is, code-used, code-blank, code-none}
 use borrow.Author.Needs.{needs}
 use Rattle.card_keys.proofs.key_code.Statement.{statement}
 use Rattle.card_keys.proofs.key_code.Tie as tie
@@ -33,10 +34,10 @@ abbrev iv-length : tie.After-iv-of → ℕ
 iv-length p = p .iv-of .result
 
 key-in : (p : tie.After-iv-of) → key-length p ≤ length (start p .args .key .now)
-key-in p = let f = key-fits (start p .args .cipher) in omega (arith, p .before .key-of .ensures, start p .pre .0, f)
+key-in p = let f = key-fits (numberOf (start p .args .cipher)) in omega (arith, p .before .key-of .ensures, start p .pre .0, f)
 
 iv-in : (p : tie.After-iv-of) → iv-length p ≤ length (start p .args .iv .now)
-iv-in p = let f = iv-fits (start p .args .cipher) in omega (arith, p .iv-of .ensures, start p .pre .1, f)
+iv-in p = let f = iv-fits (numberOf (start p .args .cipher)) in omega (arith, p .iv-of .ensures, start p .pre .1, f)
 
 -- ---- what is asked
 

@@ -10,7 +10,8 @@ use Rattle.words.specs.Tests.{pick}
 use Rattle.card_sizes.specs.Sizes.{keyLength}
 use Rattle.command.specs.Decode.{numberOf}
 use Rattle.card_keys.specs.Keys.{Handed}
-use Rattle.card_keys.proofs.Spare.{key-fits, field-full, handed, nothing}
+use Rattle.ciphers.proofs.Rows.{key-fits}
+use Rattle.card_keys.proofs.Spare.{field-full, handed, nothing}
 use borrow.Author.Needs.{needs}
 use Rattle.card_keys.proofs.key_part.Statement.{statement}
 use Rattle.card_keys.proofs.key_part.Tie as tie
@@ -47,7 +48,7 @@ returns c =
 key-in : (c : tie.After-key-of) → c .key-of .result ≤ length (field (c .before .before .before))
 key-in c =
     let p = c .before .before .before in
-    let f = key-fits (start p .args .cipher) in
+    let f = key-fits (numberOf (start p .args .cipher)) in
     omega (arith, c .key-of .ensures, whole p, f)
 
 slice-aggregate-result-2 : tie.Need-slice-aggregate-result-2

@@ -13,9 +13,11 @@ use Rattle.command.specs.Decode.{numberOf}
 use Rattle.machine.specs.Machine.{plainLine, ivFor}
 use Rattle.card_layout.specs.Words.{putLine}
 use Rattle.card_keys.specs.Keys.{keyCode}
-use Rattle.card_keys.proofs.Spare.{key-fits, handed-code, nothing-code, field-full}
+use Rattle.ciphers.proofs.Rows.{key-fits}
+use Rattle.card_keys.proofs.Spare.{handed-code, nothing-code, field-full}
 use Rattle.card_outcome.proofs.Laws.{given-put}
-use Rattle.card_open.proofs.Rows.{opened-is, opened-plain, given-code, given-key}
+use Rattle.card_outcome.proofs.Keyed.{given-code, given-key}
+use Rattle.card_open.proofs.Rows.{opened-is, opened-plain}
 use borrow.Author.Needs.{needs}
 use Rattle.card_open.proofs.open_line.Statement.{statement}
 use Rattle.card_open.proofs.open_line.Tie as tie
@@ -62,7 +64,7 @@ first-state-requires c κs =
     let p = e .before in
     let s = start p in
     let a = s .args in
-    let f = key-fits (a .cipher) in
+    let f = key-fits (numberOf (a .cipher)) in
     let g = field-full (a .at) (pick (a .own) (a .command .now) (a .tray .now)) (s .pre .1 .0) in
     (ap length (key-is e) ∙ length-take-le _ (field p) (omega (arith, f, g)), s .pre .1 .1)
 

@@ -16,7 +16,7 @@ use Rattle.command.proofs.Rows.{AllPassed, code-passed}
 use Rattle.card_rows.specs.Rows.{parkRows}
 use Rattle.machine.specs.Machine.{Line, Effect, refuseIf, imageOf, idleLine}
 use Rattle.machine.specs.Parks.{lastPark, noMore, numberNow, parked}
-use Rattle.machine.specs.Logs.{lineOn}
+use Rattle.machine.specs.Calls.{lineOn}
 use Rattle.card_layout.specs.Words.{cardIn, putParks}
 use Rattle.card_line.proofs.Lines.{idle-plain}
 use Rattle.card_layout.proofs.Cards.{part-held, line-part}

@@ -2,7 +2,7 @@
 -- Assumes nothing.
 use Rattle.words.specs.Lists.{Byte}
 use Rattle.machine.specs.Machine.{Call}
-use Rattle.machine.specs.OneStream.{CallBytes}
+use Rattle.machine.specs.Calls.{CallBytes}
 use Rattle.card_outcome.specs.Leaves.{callOf}
 use Rattle.words.proofs.Ranges.{all-known}
 use Rattle.pipeshear.proofs.Results.{wrong-counts, wrong-card, ran}

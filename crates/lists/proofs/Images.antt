@@ -4,11 +4,11 @@ use mathlib.Core.Path.{_≡_, refl, ap, sym, _∙_, subst}
 use mathlib.Core.List.{List}
 use Prim.Native.Nat.{ℕ, _/_, _≤_}
 use Rattle.keystream.proofs.Laws.{stateAt-rebase, byteAt-rebase, div-mono}
 use Rattle.machine.specs.Machine.{Line, MLine, genAt, unitAt, stateOf, byteOf, shown, based, imageOf, imageLine}
 use Rattle.words.specs.Lists.{Word}
-use Rattle.machine.specs.OneStream.{GoesOn}
+use Rattle.lists.specs.OneStream.{GoesOn}
 use Rattle.machine.proofs.Fields.{Sized, image-back}
 use Rattle.machine.proofs.Lines.{unit-pos}
 
 -- a line that starts anew from what is seen of it goes on where the line stands
 pub anew-goes-on : (l : MLine) → l .from ≤ unitAt l → GoesOn l (based (shown l))

@@ -13,17 +13,18 @@ use borrow.Author.Tests.{le-leb, lt-leb, eqb-true}
 use Rattle.words.specs.Tests.{pick}
 use Rattle.card_moves.specs.Moves.{comesDue, positionOn}
 use Rattle.card_moves.proofs.Due.{due-told, not-told}
-use Rattle.machine.specs.Machine.{MLine, Line, Machine, Seen, lineAt, idle, plain, shown, along, renewed, moved, enciphered, limit, lastNumber, Call, Effect, refuse, put, crypt, park, resume, change, public, decide, perform, step, shows, freshMachine, freshCard}
-use Rattle.machine.specs.Logs.{Made, madeOf, machineRun, callsOf, cardAfter, lineOn, Did, did-nothing, did-open, did-crypt, did-park, did-resume, did-close, did-change, did, Stream, Log, begun, joined, placeAt, standing, newStream, noted, logAfter, logOf}
-use Rattle.machine.specs.OneStream.{AllBytes, Stands}
-use Rattle.machine.specs.Counted.{streamAt, positionAt, Positions, Takes, Counted}
+use Rattle.machine.specs.Machine.{MLine, Line, Machine, Seen, lineAt, idle, plain, shown, along, renewed, moved, limit, lastNumber, Call, Effect, refuse, put, crypt, park, resume, change, step, shows, freshMachine, freshCard}
+use Rattle.machine.specs.Calls.{Made, madeOf, machineRun, callsOf, cardAfter, lineOn, AllBytes}
+use Rattle.lists.specs.Logs.{Did, did-nothing, did-open, did-crypt, did-park, did-resume, did-close, did-change, did, Stream, Log, begun, joined, placeAt, standing, newStream, noted, logAfter, logOf}
+use Rattle.lists.specs.OneStream.{Stands}
+use Rattle.lists.specs.Counted.{streamAt, positionAt, Positions, Takes, Counted}
 use Rattle.machine.proofs.Moves.{moved-past, moved-short, moved-pos}
 use Rattle.machine.proofs.Lines.{Good, good-idle, good-open, due-low}
-use Rattle.machine.proofs.Simulation.{GoodCard, good-get, Fair, fair-refuse, fair-put, fair-crypt, fair-park, fair-resume, fair-change, fair-step, step-good, fresh-good}
-use Rattle.machine.proofs.Streams.{Held, place-yes, place-no, seen-at, held-streamed}
-use Rattle.machine.proofs.Explained.{Names, Explained, was-refused, was-open, was-crypt, was-park, was-resume, was-close, was-change}
-use Rattle.machine.proofs.OneStream.{machineAfter, Runs, runs, Reached, reached, reached-fresh, explained-at, place, told-at, line-after, log-last, on-its-line}
+use Rattle.machine.proofs.Simulation.{GoodCard, good-get, Fair, fair-crypt, fair-step}
+use Rattle.lists.proofs.Streams.{Held, place-yes, place-no, seen-at, held-streamed}
+use Rattle.lists.proofs.Explained.{Explained, was-refused, was-open, was-crypt, was-park, was-resume, was-close, was-change}
+use Rattle.lists.proofs.OneStream.{machineAfter, Runs, runs, Reached, reached, reached-fresh, explained-at, place, told-at, line-after, log-last, on-its-line}
 use Rattle.machine.proofs.Codes.{code-small}
 
 -- ---- streams of a log: the oldest begins at the log's first byte, and every other at position 0
 

@@ -4,8 +4,9 @@ use Prim.Native.Nat.{ℕ, _+_, _-_}
 use mathlib.Core.List.{List, [], _∷_}
 use lib.Dec.{eqb}
 use Rattle.words.specs.Tests.{pick}
 use Rattle.machine.specs.Machine.{plain, idle, opened, based, imageLine, streamOf}
-use Rattle.machine.specs.Logs.{Made, Did, did-nothing, did-open, did-crypt, did-park, did-resume, did-close, did-change, did, Stream}
+use Rattle.machine.specs.Calls.{Made}
+use Rattle.lists.specs.Logs.{Did, did-nothing, did-open, did-crypt, did-park, did-resume, did-close, did-change, did, Stream}
 
 -- nothing, for an idle line; a cipher, a key and an IV, by an open; an image; and after each of these changes, each at a position of the stream before it
 pub data Given : Type 0 where

@@ -2,16 +2,16 @@
 -- Assumes nothing.
 use mathlib.Core.Path.{_≡_, refl, ap, ap₂, sym, _∙_}
 use mathlib.Core.List.{List, _∷_}
 use Rattle.machine.specs.Machine.{Machine, Seen, Shown, seen, shows, step, cardStep, freshMachine, freshCard}
-use Rattle.machine.specs.Logs.{Made, madeOf, machineRun, callsOf}
-use Rattle.machine.specs.OneStream.{AllBytes, OneStream}
-use Rattle.machine.specs.Counted.{Counted}
-use Rattle.machine.specs.Parking.{ParkedCalls}
-use Rattle.machine.specs.Steps.{Steps, none, step as stepped}
-use Rattle.machine.proofs.Simulation.{GoodCard, step-same, step-good, fresh-good}
-use Rattle.machine.proofs.OneStream.{fresh-seen, machine-one-stream}
-use Rattle.machine.proofs.Counted.{machine-counted}
-use Rattle.machine.proofs.Parking.{machine-parked-calls}
+use Rattle.machine.specs.Calls.{Made, madeOf, machineRun, callsOf, AllBytes}
+use Rattle.lists.specs.OneStream.{OneStream}
+use Rattle.lists.specs.Counted.{Counted}
+use Rattle.lists.specs.Parking.{ParkedCalls}
+use Rattle.lists.specs.Steps.{Steps, none, step as stepped}
+use Rattle.machine.proofs.Simulation.{GoodCard, step-same, step-good, fresh-good, fresh-seen}
+use Rattle.lists.proofs.OneStream.{machine-one-stream}
+use Rattle.lists.proofs.Counted.{machine-counted}
+use Rattle.lists.proofs.Parking.{machine-parked-calls}
 
 steps-are : {c : Seen} {xs : List Made} → Steps c xs → (m : Machine) → GoodCard m → c ≡ seen m → xs ≡ machineRun m (callsOf xs)
 steps-are none m g e = refl

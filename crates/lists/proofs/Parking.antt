@@ -13,18 +13,19 @@ use Rattle.words.proofs.Tests.{both-left}
 use Rattle.command.specs.declared.Command.the-variants.{Resume}
 use Rattle.command.specs.declared.Decoded.the-variants.{Run}
 use Rattle.command.specs.Decode.{decodeOf}
 use Rattle.machine.specs.Machine.{Line, MLine, Machine, Seen, lineAt, shown, imageIn, imageLine, imageNumber, imageOk, changeOk, openOk, Call, Effect, refuse, put, crypt, park, resume, change, View, viewOf, public, isIdle, refuseIf, effectOf, decided, decide, perform, step, freshMachine}
 use Rattle.machine.specs.Parks.{Parks, numberNow, parked, holds}
-use Rattle.machine.specs.Logs.{Made, machineRun, callsOf, lineOn, Did, did-nothing, did-open, did-crypt, did-park, did-resume, did-close, did-change, did}
-use Rattle.machine.specs.OneStream.{AllBytes, Stands}
-use Rattle.machine.specs.Parking.{Brings, AllLeave, ParkedCalls}
+use Rattle.machine.specs.Calls.{Made, machineRun, callsOf, lineOn, AllBytes}
+use Rattle.lists.specs.Logs.{Did, did-nothing, did-open, did-crypt, did-park, did-resume, did-close, did-change, did}
+use Rattle.lists.specs.OneStream.{Stands}
+use Rattle.lists.specs.Parking.{Brings, AllLeave, ParkedCalls}
 use Rattle.machine.proofs.Lines.{Good, open-is, good-ok}
 use Rattle.machine.proofs.Parks.{Spent, spent-refused, Own, parked-own, parked-keeps-own, taken-keeps-own, replaced-spent, now-held, held-holds, parked-other, taken-other, number-word}
 use Rattle.machine.proofs.Simulation.{good-get, view-get}
 use Rattle.machine.proofs.Fields.{image-back, number-back}
-use Rattle.machine.proofs.Explained.{Explained, was-refused, was-open, was-crypt, was-park, was-resume, was-close, was-change}
-use Rattle.machine.proofs.Streams.{seen-at}
-use Rattle.machine.proofs.OneStream.{Runs, machineAfter, machineNext, explained-at, sized, stands-in, later, parks-since, spent-since, place, runs-since, told-at, spent-at}
+use Rattle.lists.proofs.Explained.{Explained, was-refused, was-open, was-crypt, was-park, was-resume, was-close, was-change}
+use Rattle.lists.proofs.Streams.{seen-at}
+use Rattle.lists.proofs.OneStream.{Runs, machineAfter, machineNext, explained-at, sized, stands-in, later, parks-since, spent-since, place, runs-since, told-at, spent-at}
 
 -- ---- a number that stays held
 

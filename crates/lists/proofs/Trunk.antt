@@ -15,20 +15,21 @@ use Rattle.words.specs.Tests.{pick}
 use Rattle.keystream.specs.Stream.{xorFrom}
 use Rattle.keystream.proofs.Laws.{xorFrom-append, xorFrom-agree}
 use Rattle.ciphers.specs.Table.{cipherAt}
-use Rattle.machine.specs.Machine.{Line, MLine, Machine, Seen, lineAt, idle, plain, plainLine, byteOf, shown, based, along, renewed, moved, changed, opened, imageLine, keyFor, ivFor, streamOf, Call, Effect, refuse, put, crypt, park, resume, change, public, decide, perform, step, freshMachine, freshCard}
+use Rattle.machine.specs.Machine.{MLine, Machine, Seen, lineAt, idle, plain, plainLine, byteOf, shown, based, along, renewed, moved, changed, opened, imageLine, keyFor, ivFor, streamOf, Call, Effect, refuse, put, crypt, park, resume, change, public, decide, perform, step, freshMachine, freshCard}
 use Rattle.machine.specs.Parks.{numberNow}
-use Rattle.machine.specs.Logs.{Made, machineRun, callsOf, cardAfter, lineOn, Did, did-nothing, did-open, did-crypt, did-park, did-resume, did-close, did-change, did, Stream, Log, begun, joined, placeAt, byteIn, standing, keyByte, newStream, noted, logAfter, logOf}
-use Rattle.machine.specs.OneStream.{AllBytes, GoesOn, On, Stands, OneStream}
-use Rattle.machine.specs.Trunk.{Given, no-stream, of-key, of-image, then-changed, givenBy, givenFrom, givenTo, newest, changedTo, streamsBy}
+use Rattle.machine.specs.Calls.{Made, machineRun, callsOf, cardAfter, lineOn, AllBytes}
+use Rattle.lists.specs.Logs.{Did, did-nothing, did-open, did-crypt, did-park, did-resume, did-close, did-change, did, Stream, Log, begun, joined, placeAt, byteIn, standing, keyByte, newStream, noted, logAfter, logOf}
+use Rattle.lists.specs.OneStream.{GoesOn, On, Stands, OneStream}
+use Rattle.lists.specs.Trunk.{Given, no-stream, of-key, of-image, then-changed, givenBy, givenFrom, givenTo, newest, changedTo, streamsBy}
 use Rattle.machine.proofs.Deciphers.{twice}
 use Rattle.machine.proofs.Moves.{moved-mode, moved-bare}
 use Rattle.machine.proofs.Parks.{number-word}
 use Rattle.machine.proofs.Fields.{image-back}
 use Rattle.machine.proofs.Simulation.{good-get}
-use Rattle.machine.proofs.Explained.{Names, Explained, was-refused, was-open, was-crypt, was-park, was-resume, was-close, was-change}
-use Rattle.machine.proofs.Streams.{bare, Held, held-here, place-yes, place-no, place-begun, standing-begun, seen-at}
-use Rattle.machine.proofs.OneStream.{machineAfter, Runs, runs, Reached, reached, reached-fresh, explained-at, sized, log-last, on-its-line, stands-in, place, told-at}
-use Rattle.machine.proofs.Counted.{Chain, chain-one, chain-more, Ordered, begun-ordered, step-ordered}
+use Rattle.lists.proofs.Explained.{Names, Explained, was-refused, was-open, was-crypt, was-park, was-resume, was-close, was-change}
+use Rattle.lists.proofs.Streams.{bare, Held, held-here, place-yes, place-no, place-begun, standing-begun, seen-at}
+use Rattle.lists.proofs.OneStream.{machineAfter, Runs, runs, Reached, reached, reached-fresh, explained-at, sized, log-last, on-its-line, stands-in, place, told-at}
+use Rattle.lists.proofs.Counted.{Chain, chain-one, chain-more, Ordered, begun-ordered, step-ordered}
 
 -- ---- the same calls, the same answers
 

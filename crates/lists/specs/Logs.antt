@@ -1,57 +1,16 @@
--- A list of calls as it was made, by the program or by the machine; what each call of it did, by what it was lent and what it answered; and what each line has enciphered since its open or
--- resume, with the streams that its changes brought.
+-- What each call of a list did, by what it was lent and what it answered; and what each line has enciphered since its open or resume, with the streams that its changes brought.
 -- Assumes nothing.
 use Prim.Native.Nat.{ℕ, _+_, _-_}
 use mathlib.Core.List.{List, [], _∷_, _++_}
-use lib.ListN.{length, getD, take, drop}
+use lib.ListN.{length, take}
 use lib.Dec.{eqb, leb}
 use Rattle.words.specs.Tests.{pick}
 use Rattle.command.specs.declared.Command.the-variants.{Tray, Own, Crypt, Park, Resume, Close, Change}
 use Rattle.command.specs.declared.Decoded.{Decoded}
 use Rattle.command.specs.declared.Decoded.the-variants.{Run, Refused}
 use Rattle.command.specs.Decode.{decodeOf, numberOf, operandsOf}
-use Rattle.machine.specs.Machine.{Line, MLine, Call, Shown, Seen, Machine, idle, idleLine, plain, along, byteOf, opened, based, imageLine, imageIn, keyField, ivField, keyFor, ivFor, streamOf, shows, step}
-
--- ---- the list
-
--- A call that was made: what it was lent, and all that came of it: code, counts, out as a whole and what is seen of the card.
-pub record Made : Type 0 where
-  pub call : Call
-  pub code : ℕ
-  pub used-command : ℕ
-  pub used-data : ℕ
-  pub written : ℕ
-  pub out : List ℕ
-  pub card : Seen
-
-abbrev pub madeOf : Call → Shown → Made
-madeOf a s =
-    record {
-      call = a;
-      code = s .outcome .code;
-      used-command = s .outcome .used-command;
-      used-data = s .outcome .used-data;
-      written = length (s .outcome .output);
-      out = s .outcome .output ++ drop (length (s .outcome .output)) (a .out);
-      card = s .card;
-    }
-
--- The plain machine's list. It is fed the calls, and nothing of the program's card or answers.
-abbrev pub machineRun : Machine → List Call → List Made
-machineRun m [] = []
-machineRun m (a ∷ more) = madeOf a (shows (step m a)) ∷ machineRun (step m a .machine) more
-
-abbrev pub callsOf : List Made → List Call
-callsOf [] = []
-callsOf (x ∷ xs) = x .call ∷ callsOf xs
-
--- the card after a list that starts with the card c
-abbrev pub cardAfter : Seen → List Made → Seen
-cardAfter c [] = c
-cardAfter c (x ∷ xs) = cardAfter (x .card) xs
-
-abbrev pub lineOn : Seen → ℕ → Line
-lineOn c i = getD (c .lines) i idleLine
+use Rattle.machine.specs.Machine.{MLine, idle, plain, along, byteOf, opened, based, imageLine, imageIn, keyField, ivField, keyFor, ivFor, streamOf}
+use Rattle.machine.specs.Calls.{Made}
 
 -- ---- what a call did, by what it was lent and what it answered
 

@@ -6,9 +6,10 @@ use Prim.Native.Nat.{ℕ}
 use Rattle.command.specs.declared.Command.the-variants.{Resume}
 use Rattle.command.specs.declared.Decoded.the-variants.{Run}
 use Rattle.command.specs.Decode.{decodeOf}
 use Rattle.machine.specs.Machine.{freshCard, imageIn, imageNumber}
-use Rattle.machine.specs.Logs.{Made, cardAfter, lineOn, did, did-park, did-resume}
-use Rattle.machine.specs.OneStream.{Stands}
+use Rattle.machine.specs.Calls.{Made, cardAfter, lineOn}
+use Rattle.lists.specs.Logs.{did, did-park, did-resume}
+use Rattle.lists.specs.OneStream.{Stands}
 
 -- x is a whole resume command with this image, for line j, which is idle before it
 pub record Brings (j : ℕ) (image : List ℕ) (sofar : List Made) (x : Made) : Type 0 where

@@ -7,7 +7,7 @@ use mathlib.Core.List.{List, [], _∷_, _++_, map}
 use mathlib.Core.Bool.{Bool, true, false}
 use lib.ListN.{length, getD, take, set, length-append}
 use lib.Seq.{length-take-le, getD-set-same, getD-set-other}
-use lib.Dec.{leb, eqb}
+use lib.Dec.{eqb}
 use native.Mathlib.Omega.{arith}
 use borrow.Author.Tests.{le-leb, lt-leb, eqb-true, eqb-false}
 use Rattle.words.specs.Tests.{pick}
@@ -15,12 +15,13 @@ use Rattle.keystream.specs.Stream.{xorFrom}
 use Rattle.keystream.proofs.Laws.{xorFrom-append, xorFrom-agree}
 use Rattle.card_moves.specs.Moves.{comesDue}
 use Rattle.card_moves.proofs.Due.{due-told, not-told}
 use Rattle.machine.specs.Machine.{MLine, Machine, plain, lineAt, idle, idleLine, genOf, unitAt, stateOf, byteOf, shown, based, along, renewed, moved, enciphered, changed, opened, imageLine, streamOf, Call, Effect, refuse, put, crypt, park, resume, change, perform, seen}
-use Rattle.machine.specs.Logs.{Did, did-nothing, did-open, did-crypt, did-park, did-resume, did-close, did-change, Stream, Log, begun, joined, placeAt, standing, keyByte, newStream, noted, lineOn}
-use Rattle.machine.specs.OneStream.{Streamed}
+use Rattle.machine.specs.Calls.{lineOn}
+use Rattle.lists.specs.Logs.{Did, did-nothing, did-open, did-crypt, did-park, did-resume, did-close, did-change, Stream, Log, begun, joined, placeAt, standing, keyByte, newStream, noted}
+use Rattle.lists.specs.OneStream.{Streamed}
 use Rattle.machine.proofs.Moves.{along-none, moved-past, moved-short, moved-bare, moved-none, moved-add, byteHere, enciphered-bytes}
 use Rattle.machine.proofs.Lines.{shown-idle}
-use Rattle.machine.proofs.Explained.{Names, Explained, was-refused, was-open, was-crypt, was-park, was-resume, was-close, was-change}
+use Rattle.lists.proofs.Explained.{Names, Explained, was-refused, was-open, was-crypt, was-park, was-resume, was-close, was-change}
 
 -- ---- the place of a joined byte
 

@@ -3,26 +3,27 @@
 use mathlib.Core.Path.{_≡_, refl, ap, sym, _∙_, subst}
 use mathlib.Core.Bool.{Bool, true, false}
 use mathlib.Core.List.{List, [], _∷_, _++_, append-assoc}
-use Prim.Native.Nat.{ℕ, zero, suc, _+_, _<_, _≤_}
+use Prim.Native.Nat.{ℕ, zero, suc, _+_, _<_}
 use native.Mathlib.Omega.{arith}
-use lib.Dec.{eqb, leb, lit≤}
+use lib.Dec.{eqb, leb}
 use lib.ListN.{length, getD, set, length-set, replicate}
 use lib.Seq.{length-take-le, getD-set-same, getD-set-other}
 use borrow.Author.Tests.{eq-eqb, ne-eqb, leb-true}
 use Rattle.words.specs.Tests.{pick}
 use Rattle.ciphers.specs.Table.{cipherAt}
 use Rattle.words.proofs.Tests.{both-right}
-use Rattle.machine.specs.Machine.{Line, MLine, Machine, Seen, lineAt, zeros, idle, plainLine, unitAt, stateOf, byteOf, shown, based, moved, changed, opened, streamOf, limit, imageOf, imageLine, imageNumber, Call, Effect, refuse, put, crypt, park, resume, change, public, decide, perform, step, seen, shows, freshMachine, freshCard}
-use Rattle.machine.specs.Parks.{Parks, freshParks, noMore, numberNow, parked, holds, taken}
-use Rattle.machine.specs.Logs.{Made, madeOf, machineRun, callsOf, cardAfter, lineOn, Did, did-nothing, did-open, did-crypt, did-park, did-resume, did-close, did-change, did, Log, begun, noted, logAfter, logOf, standing}
-use Rattle.machine.specs.OneStream.{AllBytes, Streamed, GoesOn, On, Kept, Stands, OneStream}
-use Rattle.machine.proofs.Lines.{start-shown, Waits, none-waits, one-waits, Good, good-idle, good-open, good-behind, shown-idle, shown-based, state-fit}
-use Rattle.machine.proofs.Simulation.{GoodCard, good-get, step-good, fresh-good}
+use Rattle.machine.specs.Machine.{Line, MLine, Machine, Seen, lineAt, zeros, idle, plainLine, unitAt, stateOf, byteOf, shown, based, moved, changed, opened, streamOf, imageOf, imageLine, imageNumber, Call, Effect, refuse, put, crypt, park, resume, change, public, decide, perform, step, seen, shows, freshMachine, freshCard}
+use Rattle.machine.specs.Parks.{Parks, noMore, numberNow, parked, holds, taken}
+use Rattle.machine.specs.Calls.{Made, madeOf, machineRun, callsOf, cardAfter, lineOn, AllBytes}
+use Rattle.lists.specs.Logs.{Did, did-nothing, did-open, did-crypt, did-park, did-resume, did-close, did-change, did, Log, begun, noted, logAfter, logOf, standing}
+use Rattle.lists.specs.OneStream.{Streamed, GoesOn, On, Kept, Stands, OneStream}
+use Rattle.machine.proofs.Lines.{opened-shown, Waits, none-waits, one-waits, Good, good-idle, good-open, good-behind, shown-based, state-fit}
+use Rattle.machine.proofs.Simulation.{GoodCard, good-get, step-good, fresh-good, fresh-seen}
 use Rattle.machine.proofs.Parks.{number-word, Spent, spent-refused, taken-spent, taken-keeps, parked-keeps}
 use Rattle.machine.proofs.Fields.{Sized}
-use Rattle.machine.proofs.Images.{image-goes-on}
-use Rattle.machine.proofs.Explained.{Names, Explained, was-refused, was-open, was-crypt, was-park, was-resume, was-close, was-change, explained}
-use Rattle.machine.proofs.Streams.{bare, Held, held-here, standing-begun, idle-held, effect-held, seen-at, held-streamed}
+use Rattle.lists.proofs.Images.{image-goes-on}
+use Rattle.lists.proofs.Explained.{Names, Explained, was-refused, was-open, was-crypt, was-park, was-resume, was-close, was-change, explained}
+use Rattle.lists.proofs.Streams.{bare, Held, held-here, standing-begun, idle-held, effect-held, seen-at, held-streamed}
 
 -- ---- a list that is the machine's, call by call
 
@@ -103,9 +104,6 @@ reached (x ∷ xs) m c g r h b =
     })
     (h .1) (b .1)
 
-pub fresh-seen : seen freshMachine ≡ freshCard
-fresh-seen = λ i. record { lines = replicate 8 (shown-idle i); parks = freshParks }
-
 pub reached-fresh : Reached freshMachine freshCard (λ i. begun idle)
 reached-fresh = record { good = fresh-good; eight = refl; card = sym fresh-seen; held = λ i. subst (λ (l : MLine). Held l (begun idle)) (sym (none 8 i)) idle-held }
   where
@@ -169,10 +167,6 @@ module _ (m : Machine) (eight : length (m .lines) ≡ 8) (a : Call) where
   -- by what it did, known by an equation
   told : (e : Effect) (d : Did) → Explained m a e d → (d' : Did) → d ≡ d' → Tells m (perform m (a .text) e .machine) d'
   told e d x d' q = subst (Tells m (perform m (a .text) e .machine)) q (tells e d x)
-
-pub opened-shown : (c : ℕ) (key iv : List ℕ) → shown (opened c key iv) ≡ plainLine 1 c 0 (cipherAt c .init key iv)
-unfolding opened
-opened-shown c key iv = start-shown 1 c (cipherAt c .init key iv)
 
 -- a call that is not an accepted one on line i
 module _ (m : Machine) (a : Call) (i : ℕ) where

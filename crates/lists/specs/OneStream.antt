@@ -4,23 +4,11 @@ use Prim.Native.Nat.{ℕ, _/_, _≤_}
 use mathlib.Core.List.{List, [], _∷_, _++_}
 use mathlib.Core.Path.{_≡_}
 use lib.ListN.{getD}
-use Rattle.words.specs.Lists.{All, Byte}
 use Rattle.keystream.specs.Stream.{xorFrom}
 use Rattle.ciphers.specs.Table.{cipherAt}
-use Rattle.machine.specs.Machine.{Line, MLine, Call, plainLine, genOf, genAt, byteOf, stateOf, imageLine, imageNumber, freshMachine, freshCard}
-use Rattle.machine.specs.Logs.{Made, machineRun, callsOf, cardAfter, lineOn, did, did-open, did-park, did-resume, Log, logOf, standing, keyByte}
-
--- The buffers that a key, an IV or an image is read from hold bytes. The entries promise it of what they were lent.
-pub record CallBytes (a : Call) : Type 0 where
-  pub command : All Byte (a .command)
-  pub tray : All Byte (a .tray)
-
-abbrev pub BytesIn : List Call → Type 0
-BytesIn [] = Unit {0}
-BytesIn (a ∷ more) = CallBytes a × BytesIn more
-
-abbrev pub AllBytes : List Made → Type 0
-AllBytes xs = BytesIn (callsOf xs)
+use Rattle.machine.specs.Machine.{Line, MLine, plainLine, genOf, genAt, byteOf, stateOf, imageLine, imageNumber, freshMachine, freshCard}
+use Rattle.machine.specs.Calls.{Made, machineRun, callsOf, cardAfter, lineOn}
+use Rattle.lists.specs.Logs.{did, did-open, did-park, did-resume, Log, logOf, standing, keyByte}
 
 -- A line, as it is seen, and its log: the outputs joined are the inputs joined, each byte XORed with the keystream byte of the newest stream that has begun there; the line's position counts
 -- from the beginning of that stream, and its state is the one from which that position's byte is read.

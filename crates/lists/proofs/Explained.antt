@@ -16,11 +16,12 @@ use Rattle.command.specs.declared.Decoded.the-variants.{Run, Refused}
 use Rattle.command.specs.Decode.{decodeOf, operandsOf, lineOf, sizeOf}
 use Rattle.command.proofs.Rows.{not-zero}
 use Rattle.command.proofs.Reading.{ReadIn, refused-in, run-in, Has, read-in}
 use Rattle.machine.specs.Machine.{Machine, lineAt, idle, shown, based, opened, enciphered, streamOf, imageOf, imageLine, imageNumber, Call, Effect, refuse, put, crypt, park, resume, change, public, keyField, ivField, viewOf, effectOf, ofDecoded, decide, perform, step, shows}
 use Rattle.machine.specs.Parks.{noMore, numberNow, holds}
-use Rattle.machine.specs.Logs.{Made, madeOf, Did, did-nothing, did-open, did-crypt, did-park, did-resume, did-close, did-change, doneBy, did}
+use Rattle.machine.specs.Calls.{Made, madeOf}
+use Rattle.lists.specs.Logs.{Did, did-nothing, did-open, did-crypt, did-park, did-resume, did-close, did-change, doneBy, did}
 use Rattle.machine.proofs.Rows.{Passed, passed, decided-by}
 use Rattle.machine.proofs.Simulation.{of-view, is-open, none-due, not-below}
 
 -- the line that a call names
 pub record Names (a : Call) (j : ℕ) : Type 0 where

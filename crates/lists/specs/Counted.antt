@@ -7,9 +7,10 @@ use mathlib.Core.List.{List, [], _∷_, _++_}
 use lib.Dec.{leb}
 use lib.ListN.{length}
 use Rattle.words.specs.Tests.{pick}
 use Rattle.machine.specs.Machine.{Line, limit, lastNumber, freshCard}
-use Rattle.machine.specs.Logs.{Made, cardAfter, lineOn, did, did-crypt, Stream, Log, placeAt, logOf}
-use Rattle.machine.specs.OneStream.{Stands}
+use Rattle.machine.specs.Calls.{Made, cardAfter, lineOn}
+use Rattle.lists.specs.Logs.{did, did-crypt, Stream, Log, placeAt, logOf}
+use Rattle.lists.specs.OneStream.{Stands}
 
 -- joined byte j of a log: the number of its stream, the oldest being 0, and its position in that stream
 abbrev pub streamAt : List Stream → ℕ → ℕ
