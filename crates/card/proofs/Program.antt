@@ -2,7 +2,7 @@
 -- Assumes nothing.
 use Prim.Native.Nat.{ℕ}
 use mathlib.Core.Path.{_≡_, sym, subst}
-use mathlib.Core.List.{List, [], _∷_}
+use mathlib.Core.List.{List, [], _∷_, map}
 use Rattle.machine.specs.Machine.{Machine, Call, Seen, step, cardStep, freshMachine, freshCard}
 use Rattle.machine.specs.Calls.{Made, madeOf, callsOf, BytesIn, AllBytes}
 use Rattle.lists.specs.OneStream.{OneStream}
@@ -10,6 +10,8 @@ use Rattle.lists.specs.Counted.{Counted}
 use Rattle.lists.specs.Steps.{Steps, none as no-steps, step as one-step}
 use Rattle.lists.specs.Parking.{ParkedCalls}
 use Rattle.lists.proofs.Steps.{steps-bytes, steps-one-stream, steps-counted, steps-parked-calls}
+use Rattle.trace.specs.Trace.{traced, AlikeLists, AllShare}
+use Rattle.trace.proofs.Runs.{steps-same-trace, steps-tell-nothing}
 use Rattle.card_layout.proofs.Cards.{fresh-words}
 use Rattle.card_outcome.specs.Outcomes.{outcomeOf, Code}
 use Rattle.card_outcome.specs.Leaves.{outOf, Untouched}
@@ -55,6 +57,14 @@ counted xs h = steps-counted xs (from-fresh h)
 -- In such a list an image that a park wrote is taken up until its line parks again.
 pub parked-calls : (xs : List Made) → Ran fresh xs → ParkedCalls xs
 parked-calls xs h = steps-parked-calls xs (from-fresh h)
+
+-- Two such lists that are alike but for data and for the key and IV bytes that are used leave the same trace: codes, counts, and what is public of the card after each call.
+pub trace-tells-nothing : (xs ys : List Made) → Ran fresh xs → Ran fresh ys → AlikeLists (callsOf xs) (callsOf ys) → map traced xs ≡ map traced ys
+trace-tells-nothing xs ys h k = steps-tell-nothing xs ys (from-fresh h) (from-fresh k)
+
+-- So do two whose calls share no more than what decisions read.
+pub same-trace : (xs ys : List Made) → Ran fresh xs → Ran fresh ys → AllShare freshMachine (callsOf xs) (callsOf ys) → map traced xs ≡ map traced ys
+same-trace xs ys h k = steps-same-trace xs ys (from-fresh h) (from-fresh k)
 
 -- What the theorems on the two ends of a trunk ask of such a list beside it.
 pub run-bytes : (xs : List Made) → Ran fresh xs → AllBytes xs

@@ -2,7 +2,7 @@
 -- Assumes nothing.
 use mathlib.Core.Path.{_≡_, refl, ap, sym, subst, _∙_}
 use mathlib.Core.Bool.{Bool, true, false}
-use mathlib.Core.List.{List, [], _∷_}
+use mathlib.Core.List.{List, [], _∷_, map}
 use Prim.Native.Nat.{ℕ}
 use lib.Dec.{eqb}
 use lib.ListN.{length, getD, replicate}
@@ -15,6 +15,8 @@ use Rattle.lists.specs.Counted.{Counted}
 use Rattle.lists.specs.Steps.{Steps, none as no-steps, step as one-step}
 use Rattle.lists.specs.Parking.{ParkedCalls}
 use Rattle.lists.proofs.Steps.{steps-bytes, steps-one-stream, steps-counted, steps-parked-calls}
+use Rattle.trace.specs.Trace.{traced, AlikeLists, AllShare}
+use Rattle.trace.proofs.Runs.{steps-same-trace, steps-tell-nothing}
 use Rattle.card_layout.specs.Words.{cardIn}
 use Rattle.card_layout.proofs.Cards.{fresh-words}
 use Rattle.card_outcome.specs.declared.Outcome.{Outcome}
@@ -76,6 +78,14 @@ counted-on xs h = steps-counted xs (from-zeros h)
 
 pub parked-calls-on : (xs : List Made) → RanOn (replicate cardSize 0) xs → ParkedCalls xs
 parked-calls-on xs h = steps-parked-calls xs (from-zeros h)
+
+-- Two such lists that are alike but for data and for the key and IV bytes that are used leave the same trace: codes, counts, and what is public of the card after each call.
+pub trace-tells-nothing-on : (xs ys : List Made) → RanOn (replicate cardSize 0) xs → RanOn (replicate cardSize 0) ys → AlikeLists (callsOf xs) (callsOf ys) → map traced xs ≡ map traced ys
+trace-tells-nothing-on xs ys h k = steps-tell-nothing xs ys (from-zeros h) (from-zeros k)
+
+-- So do two whose calls share no more than what decisions read.
+pub same-trace-on : (xs ys : List Made) → RanOn (replicate cardSize 0) xs → RanOn (replicate cardSize 0) ys → AllShare freshMachine (callsOf xs) (callsOf ys) → map traced xs ≡ map traced ys
+same-trace-on xs ys h k = steps-same-trace xs ys (from-zeros h) (from-zeros k)
 
 -- What the theorems on the two ends of a trunk ask of such a list beside it.
 pub run-bytes-on : (xs : List Made) → RanOn (replicate cardSize 0) xs → AllBytes xs

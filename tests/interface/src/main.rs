@@ -1,9 +1,11 @@
 //! Holds the card's C interface, linked as a program in C or Rust links it, against the second implementation: cards
-//! that are damaged, card buffers and counts of other lengths, the named cases, and call lists from a seed. Ends with 0 if
-//! all agree and every number was met, else with 1; its last line says which, as `tests/linked`.
+//! that are damaged, card buffers and counts of other lengths, the named cases, and call lists from a seed; and pairs of
+//! lists that are alike against each other. Ends with 0 if all agree and every number was met, else with 1; its last line
+//! says which, as `tests/linked`.
 
 #![forbid(unsafe_code)]
 
+mod alike;
 mod args;
 mod base;
 mod change;
@@ -69,6 +71,7 @@ fn named() -> Result<Tally, String> {
         ("cards with a change that waits", waiting::well_formed()?),
         ("long frames with a change in them", long::hold()?),
         ("other lengths of card and counts", lengths::hold()?),
+        ("pairs of lists that are alike but for data, keys and IVs", alike::hold()?),
     ];
     let mut sum = Tally::default();
     for (name, tally) in groups {
