@@ -31,6 +31,14 @@ struct side {
 
 extern const struct side CARD, TEXTBOOK, CRYPTOPP, IPSECMB;
 
+/* Measures starts of loaded lines against opens of a cipher, and prints two rows; the heading
+   comes before the first of them. */
+void pick_up_heading(void);
+void pick_up(const struct cipher *cipher);
+
+/* The CPU time of this program, in seconds. */
+double cpu_seconds(void);
+
 /* Prints what went wrong and ends the program with 1. */
 void fail(const char *what);
 

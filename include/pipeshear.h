@@ -8,7 +8,7 @@
  * again; no other command changes it. So an image can be resumed on the card that parked it, on any idle line, and is refused from then on (code 14). The
  * numbers are in the card: continue with only one of a card and its copies, or an image could be resumed on each.
  *
- * A line cannot be opened with a blank key: one that is all zero in the cipher's own length, in the command or in the tray, is refused (code 16).
+ * A line cannot be opened or loaded with a blank key: one that is all zero in the cipher's own length, in the command or in the tray, is refused (code 16).
  *
  * The key of a line can be changed while its call runs, with command 07, which has 27 bytes: 07, line 1, key number 1, IV 16, position 8, the highest byte first. The line's
  * bytes before that position use the old key; those from it on use the new key of the tray with the new IV, and the line's own cipher. A line's position is the number of
@@ -19,6 +19,12 @@
  * Both ends of a call must be given the same change, each before its line passes that position; their crypts need not have the same lengths. While a change is waiting, a
  * second change and a park of that line are refused (code 17), and a close drops it. The new key and IV are checked as in an open from the tray, for the line's cipher
  * (codes 9, 10, 7 and 16).
+ *
+ * A line can be loaded with its key before the call, and started with the IV when the call is picked up. Command 08, which has 4 bytes, loads an idle line: 08, line 1,
+ * cipher 1, key number 1. The key is checked as in an open from the tray (codes 4, 5, 9, 10, 7 and 16). Command 09, which has 18 bytes, starts a loaded line: 09, line 1,
+ * IV 16, the bytes beyond the line's cipher's IV length 0 (code 7). The line is then as after command 01 with the same cipher, key and IV, and the key is not kept. A start
+ * of a line that is not loaded, an open one too, is refused (code 19). The card keeps a loaded line's key, for Rabbit the state that the key alone gives; a start needs no
+ * tray. A loaded line refuses opens, resumes and loads (code 5) and crypts, parks and changes (code 6); a close empties it.
  *
  * Link with target/staticlib/libpipeshear.a, which `rt staticlib pipeshear` makes for Linux on x86-64. */
 #ifndef PIPESHEAR_H
@@ -41,7 +47,7 @@ extern "C" {
  *
  *   card      the card, PIPESHEAR_CARD words; an accepted call changes it
  *   command   the command; bytes after it are ignored; not changed
- *   tray      the key tray, 32 bytes a key; not changed; read by commands 01 and 07 only
+ *   tray      the key tray, 32 bytes a key; not changed; read by commands 01, 07 and 08 only
  *   data      the bytes to encipher or decipher, from the first on; not changed
  *   out       where crypt and park write, from the first byte on; the bytes after those written are not changed
  *   counts    three counts: bytes used of command, bytes used of data, bytes written to out
@@ -52,19 +58,20 @@ extern "C" {
  * Returns 0 for an accepted command. Any other code is a refusal: card and out are not changed, and the three counts are 0.
  *
  *     1  command empty or cut short              10  key number not in the tray
- *     2  first byte not 01 to 07                 11  data shorter than the count
+ *     2  first byte not 01 to 09                 11  data shorter than the count
  *     3  line over 7                             12  out shorter than the count, or than an image for a park
  *     4  cipher not 1 to 6                       13  position after the crypt over 2^36
- *     5  open or resume on an open line          14  park number not held
- *     6  crypt, park, change or close on a line  15  no park number left: 4,294,967,295 parks have been made
- *        that is not open                        16  key all zero
- *     7  a key or IV byte beyond the cipher's    17  change or park while a change is waiting on the line
- *        length is not 0                         18  change position below the line's position, or above 2^36
+ *     5  open, load or resume on an open or      14  park number not held
+ *        loaded line                             15  no park number left: 4,294,967,295 parks have been made
+ *     6  crypt, park or change on a line that    16  key all zero
+ *        is not open, or close on an idle line   17  change or park while a change is waiting on the line
+ *     7  a key or IV byte beyond the cipher's    18  change position below the line's position, or above 2^36
+ *        length is not 0                         19  start on a line that is not loaded
  *     8  invalid image                          255  damaged card, card_words not PIPESHEAR_CARD, or places not 3
  *     9  tray length not a multiple of 32,
  *        or over 8192
  *
- * If several apply, the first is returned, in the order 255, 1 for empty, 2, 1 for cut short, 3, 4, 5, 6, 17, 18, 15, 9, 10, 7, 16, 8, 14, 13, 11, 12.
+ * If several apply, the first is returned, in the order 255, 1 for empty, 2, 1 for cut short, 3, 4, 5, 6 or 19, 17, 18, 15, 9, 10, 7, 16, 8, 14, 13, 11, 12.
  * If places is not 3, counts is not changed either.
  *
  * The call has no state of its own and reads only what it is given, so threads may call it at the same time, each with its own card, out and counts. Two calls on one card

@@ -5,9 +5,9 @@ use std::fmt;
 
 /// A card of eight lines. A new one has all lines idle and has made no park.
 ///
-/// The words of a card determine the keystreams of its lines: protect them like keys. They are not shown by `Debug`
-/// and not wiped on drop. A clone continues the same keystreams as the card it was made from and accepts the same
-/// images, so continue with only one of the two.
+/// The words of a card determine the keystreams of its lines, and a loaded line has its key in them: protect them like
+/// keys. They are not shown by `Debug` and not wiped on drop. A clone continues the same keystreams as the card it was made
+/// from and accepts the same images, so continue with only one of the two.
 #[derive(Clone, PartialEq, Eq)]
 pub struct Card {
     words: [u32; Card::WORDS],
@@ -55,15 +55,16 @@ impl Card {
 
     /// Runs the first command in `command`; bytes after it are ignored.
     ///
-    /// The key tray has 32 bytes for each key and is read only by an open from the tray and by a change of key. A crypt
-    /// takes its bytes from the start of `data`. Crypt and park write to the start of `out`; the bytes after those written
-    /// are not changed. A refused command changes neither the card nor `out`.
+    /// The key tray has 32 bytes for each key and is read only by an open from the tray, by a change of key and by a load.
+    /// A crypt takes its bytes from the start of `data`. Crypt and park write to the start of `out`; the bytes after those
+    /// written are not changed. A refused command changes neither the card nor `out`.
     ///
     /// ```
     /// use pipeshear::{command, Card, IMAGE};
     ///
     /// let refusal = Card::new().call(&command::park(4), &[], &[], &mut [0; IMAGE]).unwrap_err();
-    /// assert_eq!(refusal.to_string(), "crypt, park, change or close on a line that is not open (code 6)");
+    /// let text = "crypt, park or change on a line that is not open, or close on an idle line (code 6)";
+    /// assert_eq!(refusal.to_string(), text);
     /// ```
     pub fn call(&mut self, command: &[u8], tray: &[u8], data: &[u8], out: &mut [u8]) -> Result<Counts, Refusal> {
         let mut counts = [0; 3];
@@ -237,6 +238,66 @@ mod tests {
         card.call(&command::change_key(4, 0, &[5; 16], 9), &tray(), &[], &mut []).unwrap();
         card.call(&command::close(4), &[], &[], &mut []).unwrap();
         assert_eq!(card, Card::new());
+    }
+
+    #[test]
+    fn a_load_and_a_start_are_an_open() {
+        let mut iv = [0; command::IV];
+        iv[..8].fill(5);
+        for (cipher, _) in CIPHERS {
+            let (mut card, mut other) = (Card::new(), Card::new());
+            other.call(&command::open_tray(4, cipher, 0, &iv), &tray(), &[], &mut []).unwrap();
+            card.call(&command::load(4, cipher, 0), &tray(), &[], &mut []).unwrap();
+            assert!(card != other && card != Card::new());
+            card.call(&command::start(4, &iv), &[], &[], &mut []).unwrap();
+            assert_eq!(card, other);
+        }
+    }
+
+    #[test]
+    fn a_loaded_line_takes_a_start_or_a_close_and_nothing_else() {
+        for (cipher, _) in CIPHERS {
+            let mut card = Card::new();
+            card.call(&command::load(4, cipher, 0), &tray(), &[], &mut []).unwrap();
+            let before = card.clone();
+            let mut code = |command: &[u8]| {
+                let refusal = card.call(command, &tray(), &[0; 9], &mut [0; IMAGE]).unwrap_err();
+                assert_eq!(card, before);
+                refusal.code()
+            };
+            assert_eq!(code(&command::open_tray(4, cipher, 0, &[0; 16])), 5);
+            assert_eq!(code(&command::open_own(4, cipher, &tray(), &[0; 16])), 5);
+            assert_eq!(code(&command::resume(4, &[0; IMAGE])), 5);
+            assert_eq!(code(&command::load(4, cipher, 0)), 5);
+            assert_eq!(code(&command::crypt(4, 9)), 6);
+            assert_eq!(code(&command::park(4)), 6);
+            assert_eq!(code(&command::change_key(4, 0, &[0; 16], 0)), 6);
+            assert_eq!(code(&command::start(3, &[0; 16])), 19);
+            card.call(&command::close(4), &[], &[], &mut []).unwrap();
+            assert_eq!(card, Card::new());
+        }
+    }
+
+    #[test]
+    fn a_start_of_a_line_that_is_not_loaded_is_19() {
+        for mut card in [Card::new(), opened()] {
+            let before = card.clone();
+            let refusal = card.call(&command::start(4, &[5; 16]), &tray(), &[], &mut []).unwrap_err();
+            assert_eq!((refusal.code(), card), (19, before));
+        }
+    }
+
+    #[test]
+    fn a_loaded_line_that_is_damaged_is_255() {
+        let mut card = Card::new();
+        card.call(&command::load(4, Cipher::Zuc, 0), &tray(), &[], &mut []).unwrap();
+        let words = *card.words();
+        for place in (4 * 82..5 * 82).filter(|&place| words[place] == 0) {
+            let mut damaged = words;
+            damaged[place] = 1;
+            let refusal = Card::from_words(damaged).call(&command::close(4), &[], &[], &mut []).unwrap_err();
+            assert_eq!(refusal.code(), 255);
+        }
     }
 
     #[test]

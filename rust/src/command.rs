@@ -51,7 +51,8 @@ pub fn resume(line: u8, image: &[u8; IMAGE]) -> [u8; 2 + IMAGE] {
     bytes
 }
 
-/// Makes an open line idle. A change of key that is waiting on it is dropped.
+/// Makes an open or loaded line idle. A change of key that is waiting on it is dropped, and so is the key that was
+/// loaded.
 pub fn close(line: u8) -> [u8; 2] {
     [0x06, line]
 }
@@ -67,6 +68,24 @@ pub fn change_key(line: u8, key_number: u8, iv: &[u8; IV], position: u64) -> [u8
     bytes[..3].copy_from_slice(&[0x07, line, key_number]);
     bytes[3..3 + IV].copy_from_slice(iv);
     bytes[3 + IV..].copy_from_slice(&position.to_be_bytes());
+    bytes
+}
+
+/// Loads an idle line with key `key_number` of the tray, ahead of its call: a [`start`] with the IV opens it. The key is
+/// checked as in an open from the tray; the tray may be another one, or empty, when the line is started.
+///
+/// A loaded line keeps its cipher and what the start needs of the key. Until it is started, opens, loads and resumes of
+/// the line are refused with code 5, and crypts, parks and changes with code 6; a [`close`] empties it.
+pub fn load(line: u8, cipher: Cipher, key_number: u8) -> [u8; 4] {
+    [0x08, line, cipher.number(), key_number]
+}
+
+/// Opens a loaded line with this IV. The line is then as after an open with its cipher, its key and this IV; the key is
+/// not kept. On a line that is not loaded, an open one too, a start is refused with code 19.
+pub fn start(line: u8, iv: &[u8; IV]) -> [u8; 2 + IV] {
+    let mut bytes = [0; 2 + IV];
+    bytes[..2].copy_from_slice(&[0x09, line]);
+    bytes[2..].copy_from_slice(iv);
     bytes
 }
 
@@ -96,6 +115,11 @@ mod tests {
         assert_eq!(counts(&mut card, &resume(0, &out), &mut []), (2 + IMAGE, 0, 0));
         assert_eq!(counts(&mut card, &close(0), &mut out), (2, 0, 0));
         assert_eq!(counts(&mut card, &close(1), &mut out), (2, 0, 0));
+        assert_eq!(counts(&mut card, &load(3, Cipher::KCipher2, 0), &mut out), (4, 0, 0));
+        assert_eq!(counts(&mut card, &start(3, &[3; IV]), &mut out), (18, 0, 0));
+        assert_eq!(counts(&mut card, &close(3), &mut out), (2, 0, 0));
+        assert_eq!(counts(&mut card, &load(3, Cipher::Rabbit, 0), &mut out), (4, 0, 0));
+        assert_eq!(counts(&mut card, &close(3), &mut out), (2, 0, 0));
         // All lines are idle and no number is held; one park was made.
         let mut words = *card.words();
         assert_eq!(std::mem::take(&mut words[8 * 82]), 1);
@@ -125,5 +149,8 @@ mod tests {
         assert_eq!(change[..4], [7, 6, 255, 0xBB]);
         assert_eq!(change[18..], [0xBB, 1, 2, 3, 4, 5, 6, 7, 8]);
         assert_eq!(change.len(), 27);
+        assert_eq!(load(6, Cipher::Mugi, 255), [8, 6, 6, 255]);
+        assert_eq!(start(6, &iv)[..3], [9, 6, 0xBB]);
+        assert_eq!(start(6, &iv).len(), 18);
     }
 }

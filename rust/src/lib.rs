@@ -58,6 +58,27 @@
 //! assert_eq!(refusal.to_string(), "key all zero (code 16)");
 //! ```
 //!
+//! A line can be loaded with its key before the call, and started with the IV when the call is picked up:
+//!
+//! ```
+//! use pipeshear::{command, Card, Cipher};
+//!
+//! let mut tray = [0; 32];
+//! tray[..16].fill(7);
+//! let mut iv = [0; 16];
+//! iv[..8].fill(9);
+//! let (mut card, mut other) = (Card::new(), Card::new());
+//! card.call(&command::load(0, Cipher::Rabbit, 0), &tray, &[], &mut [])?;
+//! card.call(&command::start(0, &iv), &[], &[], &mut [])?;
+//!
+//! other.call(&command::open_tray(0, Cipher::Rabbit, 0, &iv), &tray, &[], &mut [])?;
+//! assert_eq!(card, other);
+//!
+//! let again = card.call(&command::start(0, &iv), &[], &[], &mut []).unwrap_err();
+//! assert_eq!(again.to_string(), "start on a line that is not loaded (code 19)");
+//! # Ok::<(), pipeshear::Refusal>(())
+//! ```
+//!
 //! The key of a line can be changed while its call runs. Both ends send the same change, with the position from which on
 //! the new key is used; their frames need not be the same:
 //!

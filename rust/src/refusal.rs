@@ -17,7 +17,7 @@ impl Refusal {
         }
     }
 
-    /// The code: 1 to 18, or 255 for a damaged card.
+    /// The code: 1 to 19, or 255 for a damaged card.
     pub const fn code(self) -> u8 {
         self.0.get()
     }
@@ -35,11 +35,11 @@ impl Error for Refusal {}
 fn text(code: u8) -> &'static str {
     match code {
         1 => "command empty or cut short",
-        2 => "first byte not 01 to 07",
+        2 => "first byte not 01 to 09",
         3 => "line over 7",
         4 => "cipher not 1 to 6",
-        5 => "open or resume on an open line",
-        6 => "crypt, park, change or close on a line that is not open",
+        5 => "open, load or resume on an open or loaded line",
+        6 => "crypt, park or change on a line that is not open, or close on an idle line",
         7 => "a key or IV byte beyond the cipher's length is not 0",
         8 => "an image whose cipher, position, state or padding is wrong",
         9 => "tray length not a multiple of 32, or over 8192",
@@ -52,6 +52,7 @@ fn text(code: u8) -> &'static str {
         16 => "key all zero",
         17 => "change or park while a change of key is waiting on the line",
         18 => "change position below the line's position, or above 2^36",
+        19 => "start on a line that is not loaded",
         255 => "damaged card",
         _ => "a code that the card does not give",
     }
@@ -64,10 +65,10 @@ mod tests {
 
     #[test]
     fn every_code_has_a_text_of_its_own() {
-        let codes: Vec<u8> = (1..=18).chain([255]).collect();
+        let codes: Vec<u8> = (1..=19).chain([255]).collect();
         let texts: HashSet<&str> = codes.iter().map(|&code| text(code)).collect();
         assert_eq!(texts.len(), codes.len());
-        assert!(!texts.contains(text(19)));
+        assert!(!texts.contains(text(20)));
     }
 
     #[test]

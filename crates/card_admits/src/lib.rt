@@ -1,7 +1,7 @@
-// Bytes and words that are all zero, which number 7 asks, and the states that each cipher admits, which 8 and 255 ask.
+// Bytes and words that are all zero, which number 7 asks, the states that each cipher admits, which 8 and 255 ask, and what a loaded line may keep.
 // The caller must ensure that a state has its words.
 ghost use mathlib.Core.Path.{_≡_};
-ghost use mathlib.Core.Bool.{true};
+ghost use mathlib.Core.Bool.{true, not};
 ghost use lib.Dec.{eqb};
 ghost use Prim.Native.Nat.{_≤_};
 ghost use lib.ListN.{length, take, getD};
@@ -9,6 +9,7 @@ ghost use Rattle.card_sizes.specs.Sizes.{stateWords};
 ghost use Rattle.words.specs.Tests.{both, pick};
 ghost use Rattle.command.specs.Decode.{numberOf};
 ghost use Rattle.ciphers.specs.Table.{cipherAt, areCells, allZero, zerosFrom};
+ghost use Rattle.ciphers.specs.Kept.{keepsOk};
 use command::Cipher;
 
 // Whether all bytes are zero.
@@ -112,5 +113,30 @@ pub fn admits(c: Cipher, w: &[u32]) -> bool
         Cipher::Snow256 => spare(w, 18),
         Cipher::Kcipher2 => spare(w, 20),
         Cipher::Mugi => true,
+    }
+}
+
+// Whether the first k words are not all zero, and the others are.
+fn key_alone(w: &[u32], k: usize) -> bool
+    requires { ⌜ k ≤ length (now w) ⌝ }
+    ensures { λ r. ⌜ r ≡ both (zerosFrom k (now (w .entry))) (not (allZero (take k (now (w .entry))))) ⌝ }
+{
+    let plain = spare(w, k);
+    if !plain {
+        return false;
+    }
+    let blank = words_zero(&w[..k]);
+    !blank
+}
+
+// Whether a loaded line of a cipher may keep these words: the words of a key that is not all zero and zeros after them, of Rabbit a state that it admits.
+pub fn keeps(c: Cipher, w: &[u32]) -> bool
+    requires { ⌜ length (now w) ≡ stateWords ⌝ }
+    ensures { λ r. ⌜ r ≡ keepsOk (numberOf c) (now (w .entry)) ⌝ }
+{
+    match c {
+        Cipher::Rabbit => rabbit_admits(w),
+        Cipher::Snow256 => key_alone(w, 8),
+        _ => key_alone(w, 4),
     }
 }

@@ -41,7 +41,7 @@ fn put_stream(card: &mut [u32], i: u8, cipher: Cipher, p: u64, state: &[u32])
     let n = card_layout::position_at(card, i);
     if p == n {
         let number = number_of(cipher);
-        card_layout::put_line(number, 0, state, card, i);
+        card_layout::put_line(1, number, 0, state, card, i);
         return;
     }
     card_layout::put_waiting(p, state, card, i);

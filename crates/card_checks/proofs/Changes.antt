@@ -11,7 +11,7 @@ use borrow.Author.Tests.{lt-ltb, le-ltb, eq-eqb, ne-eqb, eqb-true}
 use Rattle.words.specs.Lists.{tab}
 use Rattle.words.specs.Tests.{both, pick}
 use Rattle.words.proofs.Registers.{listed}
-use Rattle.words.proofs.Tests.{both-left, both-right}
+use Rattle.words.proofs.Tests.{both-left, both-right, both-true}
 use Rattle.card_sizes.specs.Sizes.{stateWords, dueAt, waitingAt, lineSize}
 use Rattle.ciphers.specs.Table.{allZero}
 use Rattle.machine.specs.Machine.{stateOk, changeOk}
@@ -68,6 +68,18 @@ module _ (ws : List ℕ) (size : length ws ≡ lineSize) where
   none-waits c n h =
       let z = kept-zero (getD ws dueAt 0) (getD ws (dueAt + 1) 0) (lineIn ws .waiting) (sym (ap allZero kept-is) ∙ h) in
       sym (by-due c n (lineIn ws .due) (lineIn ws .waiting) (eq-eqb _ 0 (z .0)) ∙ z .1)
+
+  -- nothing waits exactly where all of them are zero
+  pub quiet-is : (b : Bool) → allZero (take 40 (drop dueAt ws)) ≡ b → both (eqb (lineIn ws .due) 0) (allZero (lineIn ws .waiting)) ≡ b
+  unfolding lineIn
+  quiet-is true h =
+      let z = kept-zero (getD ws dueAt 0) (getD ws (dueAt + 1) 0) (lineIn ws .waiting) (sym (ap allZero kept-is) ∙ h) in
+      both-true (eq-eqb _ 0 (z .0)) (z .1)
+  quiet-is false h = by (eqb (lineIn ws .due) 0) refl
+    where
+      by : (b : Bool) → eqb (lineIn ws .due) 0 ≡ b → both b (allZero (lineIn ws .waiting)) ≡ false
+      by true e = kept-none (getD ws dueAt 0) (getD ws (dueAt + 1) 0) (lineIn ws .waiting) (sym (ap allZero kept-is) ∙ h) (eqb-true _ 0 e)
+      by false e = refl
 
   -- the lower half of its position is a word then
   pub none-low : allZero (take 40 (drop dueAt ws)) ≡ true → getD ws (dueAt + 1) 0 < 2 ^ 32

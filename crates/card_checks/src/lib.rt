@@ -9,6 +9,7 @@ ghost use Rattle.machine.specs.Machine.{stateOk, changeOk, lineOk, cardOk};
 ghost use Rattle.card_line.specs.Words.{lineIn, lineWords};
 ghost use Rattle.card_layout.specs.Words.{cardIn, Sound};
 use card_admits::admits;
+use card_admits::keeps;
 use card_admits::words_zero;
 use card_sizes::DUE;
 use card_sizes::HEAD;
@@ -52,6 +53,26 @@ fn change_ok(c: u8, n: u64, line: &[u32]) -> bool
     open_with(c, due, &line[WAITING..LINE])
 }
 
+// Whether the loaded line that stands in words is as a call leaves it; where it is, the words hold that line and nothing else.
+fn loaded_ok(line: &[u32]) -> bool
+    requires { ⌜ (length (now line) ≡ lineSize) × (getD (now line) 0 0 ≡ 2) ⌝ }
+    ensures { λ r. ⌜ (r ≡ lineOk (lineIn (now (line .entry)))) × (r ≡ true → lineWords (lineIn (now (line .entry))) ≡ now (line .entry)) ⌝ }
+{
+    let named = card_line::cipher_of(line);
+    let CipherRead::Is(cipher) = read_cipher(named) else {
+        return false;
+    };
+    let n = card_line::position_of(line);
+    if n != 0 {
+        return false;
+    }
+    let quiet = words_zero(&line[DUE..LINE]);
+    if !quiet {
+        return false;
+    }
+    keeps(cipher, &line[HEAD..DUE])
+}
+
 // Whether the line that stands in words is as a call leaves it; where it is, the words hold that line and nothing else. An idle line's words are all zero.
 pub fn line_ok(line: &[u32]) -> bool
     requires { ⌜ length (now line) ≡ lineSize ⌝ }
@@ -67,9 +88,11 @@ pub fn line_ok(line: &[u32]) -> bool
         }
         return change_ok(cipher, n, line);
     }
-    let idle = words_zero(line);
-    if idle {
-        return true;
+    if mode == 0 {
+        return words_zero(line);
+    }
+    if mode == 2 {
+        return loaded_ok(line);
     }
     false
 }

@@ -49,7 +49,7 @@ fn renew(line: &mut [u32])
 {
     let cipher = card_line::cipher_of(line);
     let state = card_state::state_of(&line[WAITING..LINE]);
-    card_line::put_words(cipher, 0, &state, line);
+    card_line::put_words(1, cipher, 0, &state, line);
 }
 
 // The open line, past a change that comes due after old bytes of the text: those in the stream that the line is in, and the rest in the one that waits.

@@ -14,19 +14,28 @@ use Rattle.words.proofs.Tests.{both-true, both-false}
 use Rattle.machine.specs.Machine.{spareUsed, blankKey}
 use Rattle.card_keys.specs.Keys.{keyCode, Handed}
 
-module _ (c k v : ℕ) (key iv : List ℕ) (ek : k ≡ cipherAt c .key) (ev : v ≡ cipherAt c .iv) where
-  spare-is : (b : Bool) → both (allZero (drop k key)) (allZero (drop v iv)) ≡ b → spareUsed c key iv ≡ not b
+module _ (c k : ℕ) (key iv : List ℕ) (ek : k ≡ cipherAt c .key) where
+  spare-is : (b : Bool) → both (allZero (drop k key)) (allZero (drop (cipherAt c .iv) iv)) ≡ b → spareUsed c key iv ≡ not b
   unfolding spareUsed
-  spare-is b h = ap not (sym (ap₂ (λ (x y : ℕ). both (allZero (drop x key)) (allZero (drop y iv))) ek ev) ∙ h)
+  spare-is b h = ap not (sym (ap (λ (x : ℕ). both (allZero (drop x key)) (allZero (drop (cipherAt c .iv) iv))) ek) ∙ h)
 
   pub spare-key : allZero (drop k key) ≡ false → spareUsed c key iv ≡ true
-  spare-key h = spare-is false (ap (λ (x : Bool). both x (allZero (drop v iv))) h)
+  spare-key h = spare-is false (ap (λ (x : Bool). both x (allZero (drop (cipherAt c .iv) iv))) h)
 
-  pub spare-iv : allZero (drop v iv) ≡ false → spareUsed c key iv ≡ true
-  spare-iv h = spare-is false (both-false (allZero (drop k key)) (allZero (drop v iv)) h)
+  pub spare-iv : allZero (drop (cipherAt c .iv) iv) ≡ false → spareUsed c key iv ≡ true
+  spare-iv h = spare-is false (both-false (allZero (drop k key)) (allZero (drop (cipherAt c .iv) iv)) h)
 
-  pub spare-none : allZero (drop k key) ≡ true → allZero (drop v iv) ≡ true → spareUsed c key iv ≡ false
+  pub spare-none : allZero (drop k key) ≡ true → allZero (drop (cipherAt c .iv) iv) ≡ true → spareUsed c key iv ≡ false
   spare-none h g = spare-is true (both-true h g)
+
+nothing-left : (n : ℕ) → _≡_ {A = List ℕ} (drop n []) []
+nothing-left zero = refl
+nothing-left (suc n) = refl
+
+-- of an IV alone
+pub spare-alone : (c : ℕ) (iv : List ℕ) {b : Bool} → b ≡ allZero (drop (cipherAt c .iv) iv) → spareUsed c [] iv ≡ not b
+unfolding spareUsed
+spare-alone c iv e = ap not (ap (λ (x : List ℕ). both (allZero x) (allZero (drop (cipherAt c .iv) iv))) (nothing-left (cipherAt c .key)) ∙ sym e)
 
 -- the key within its length
 pub blank-is : (c : ℕ) (key : List ℕ) {k : ℕ} {b : Bool} → k ≡ cipherAt c .key → allZero (take k key) ≡ b → blankKey c key ≡ b

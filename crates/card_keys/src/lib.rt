@@ -1,11 +1,12 @@
 // The key of a command: which part of tray or command it is, what numbers 7 and 16 say of it and of the IV, and the key that is handed out.
-// The caller must ensure that the part is there, and that key and IV have their bytes.
+// The caller must ensure that the part is there, and that a key has its bytes. An IV may have any length: a load has none.
 ghost use mathlib.Core.Path.{_≡_};
 ghost use Prim.Native.Nat.{_+_, _≤_};
-ghost use lib.ListN.{length, take, drop};
+ghost use lib.ListN.{length, drop};
 ghost use Rattle.words.specs.Tests.{pick};
-ghost use Rattle.card_sizes.specs.Sizes.{keyLength, ivLength};
+ghost use Rattle.card_sizes.specs.Sizes.{keyLength};
 ghost use Rattle.command.specs.Decode.{numberOf};
+ghost use Rattle.ciphers.specs.Table.{cipherAt, allZero};
 ghost use Rattle.card_keys.specs.Keys.{keyBytes, keyCode, Handed};
 use card_admits::all_zero;
 use card_sizes::KEY;
@@ -27,19 +28,28 @@ pub fn key_field<'a>(tray: &'a [u8], command: &'a [u8], own: bool, at: usize) ->
     }
 }
 
+// Whether the bytes of an IV beyond the cipher's length are zero; where there are none, they are.
+pub fn iv_clear(cipher: Cipher, iv: &[u8]) -> bool
+    ensures { λ r. ⌜ r ≡ allZero (drop (cipherAt (numberOf cipher) .iv) (now (iv .entry))) ⌝ }
+{
+    let v = iv_of(cipher);
+    if iv.len() < v {
+        return true;
+    }
+    all_zero(&iv[v..])
+}
+
 // The number that refuses a key and an IV, or 0: 7 where a byte beyond the cipher's lengths is not 0, 16 where the key is all zero.
 pub fn key_code(cipher: Cipher, key: &[u8], iv: &[u8]) -> u8
     requires { ⌜ length (now key) ≡ keyLength ⌝ }
-    requires { ⌜ length (now iv) ≡ ivLength ⌝ }
     ensures { λ r. ⌜ r ≡ keyCode (numberOf cipher) (now (key .entry)) (now (iv .entry)) ⌝ }
 {
     let k = key_of(cipher);
-    let v = iv_of(cipher);
     let plain = all_zero(&key[k..]);
     if !plain {
         return 7;
     }
-    let clear = all_zero(&iv[v..]);
+    let clear = iv_clear(cipher, iv);
     if !clear {
         return 7;
     }
@@ -60,7 +70,6 @@ pub fn key_number<'a>(
     iv: &[u8],
 ) -> u8
     requires { ⌜ at + keyLength ≤ length (pick own (now command) (now tray)) ⌝ }
-    requires { ⌜ length (now iv) ≡ ivLength ⌝ }
     ensures { λ r. ⌜ r ≡ keyCode (numberOf cipher) (keyBytes own at (now (tray .entry)) (now (command .entry))) (now (iv .entry)) ⌝ }
 {
     let field = key_field(tray, command, own, at);
@@ -77,7 +86,6 @@ pub fn key_part<'a>(
     iv: &[u8],
 ) -> &'a [u8]
     requires { ⌜ at + keyLength ≤ length (pick own (now command) (now tray)) ⌝ }
-    requires { ⌜ length (now iv) ≡ ivLength ⌝ }
     ensures { λ r. ⌜ Handed (numberOf cipher) (keyBytes own at (now (tray .entry)) (now (command .entry)))
         (now (iv .entry)) (now r) ⌝ }
 {

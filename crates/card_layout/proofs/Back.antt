@@ -8,7 +8,7 @@ use lib.ListN.{length, length-map, length-append}
 use lib.Seq.{drop-at, take-at}
 use Rattle.card_sizes.specs.Sizes.{stateWords, lineSize, lineCount, cardSize}
 use Rattle.machine.specs.Machine.{Line, MLine, Machine, shown, unitAt, seen}
-use Rattle.machine.proofs.Lines.{none-waits, one-waits, Good, good-idle, good-open, good-ok, shown-idle, state-fit}
+use Rattle.machine.proofs.Lines.{none-waits, one-waits, Good, good-idle, good-loaded, good-open, good-ok, shown-idle, start-shown, state-fit}
 use Rattle.machine.proofs.Simulation.{AllGood, none-good, more-good}
 use Rattle.card_line.specs.Words.{lineIn, lineWords}
 use Rattle.card_layout.specs.Words.{linesIn, linesWords, parksIn, parksWords, cardIn, cardWords}
@@ -40,11 +40,13 @@ lines-length (l ∷ ls) (more-plain s h) =
 full-of : (l : MLine) → Good l → length (shown l .words) ≡ stateWords
 unfolding shown
 full-of l good-idle = ap (λ (x : Line). length (x .words)) shown-idle
+full-of _ (good-loaded {c} {w} h k) = ap (λ (x : Line). length (x .words)) (start-shown 2 c w) ∙ k .full
 full-of l (good-open m c p b f w) = state-fit l (unitAt l) f .full
 
 waits-full-of : (l : MLine) → Good l → length (shown l .waiting) ≡ stateWords
 unfolding shown
 waits-full-of l good-idle = refl
+waits-full-of l (good-loaded h k) = refl
 waits-full-of l (good-open m c p b f (none-waits d e)) = ap length e
 waits-full-of l (good-open m c p b f (one-waits a u v)) = v .full
 

@@ -50,15 +50,15 @@ pub fn cipher_at(card: &[u32], i: u8) -> u8
     card_line::cipher_of(&card[at..end])
 }
 
-// Line i of a card is open, with this cipher, this position and this state, and nothing waits.
-pub fn put_line(cipher: u8, n: u64, state: &[u32], card: &mut [u32], i: u8)
+// Line i of a card is in this mode, with this cipher, this position and this state, and nothing waits.
+pub fn put_line(mode: u32, cipher: u8, n: u64, state: &[u32], card: &mut [u32], i: u8)
     requires { ⌜ (length (now card) ≡ cardSize) × (i < lineCount) ⌝ }
     requires { ⌜ length (now state) ≡ stateWords ⌝ }
-    ensures { λ _. ⌜ now (card .exit) ≡ putLine (now (card .entry)) i (plainLine 1 cipher n (now (state .entry))) ⌝ }
+    ensures { λ _. ⌜ now (card .exit) ≡ putLine (now (card .entry)) i (plainLine mode cipher n (now (state .entry))) ⌝ }
 {
     let at = LINE * (i as usize);
     let end = at + LINE;
-    card_line::put_words(cipher, n, state, &mut card[at..end]);
+    card_line::put_words(mode, cipher, n, state, &mut card[at..end]);
 }
 
 // On line i of a card a change waits at position p, to the stream that begins with this state.

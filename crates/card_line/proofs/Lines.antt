@@ -7,8 +7,8 @@ use Prim.Native.Nat.{ℕ, _+_, _*_, _/_, _%_, _^_, _<_, _≤_, min}
 use native.Mathlib.Nat.{div-add-mod'}
 use native.Mathlib.Omega.{arith}
 use borrow.Rule.Slice.PartMut.{putMid}
-use borrow.Author.Tests.{eqb-true, leb-true, eq-eqb}
-use lib.Dec.{eqb, leb}
+use borrow.Author.Tests.{eqb-true, leb-true, eq-eqb, ne-eqb}
+use lib.Dec.{eqb, leb, lit<}
 use lib.Arith.{digits-div, digits-mod}
 use lib.ListN.{length, getD, take, drop, set, replicate}
 use lib.Seq.{sets-eq}
@@ -19,7 +19,7 @@ use Rattle.words.proofs.Tests.{both-left, both-right, both-true}
 use Rattle.card_sizes.specs.Sizes.{stateWords, headWords, dueAt, waitingAt, lineSize}
 use Rattle.ciphers.specs.Table.{allZero, isCipher}
 use Rattle.ciphers.proofs.States.{zeros-of}
-use Rattle.machine.specs.Machine.{Line, plainLine, lineOk, idleOk, openOk, stateOk, imageOk, changeOk, idleLine}
+use Rattle.machine.specs.Machine.{Line, plainLine, lineOk, idleOk, openOk, loadedOk, stateOk, imageOk, changeOk, idleLine}
 use Rattle.card_line.specs.Words.{lineIn, lineWords, withChange, LineHeld}
 
 -- ---- a line is read back from its words
@@ -77,21 +77,24 @@ module _ (ws : List ℕ) (n : length ws ≡ lineSize) where
 
 -- mode and cipher of a line that passes
 pub small : (l : Line) → lineOk l ≡ true → (l .mode < 255) × (l .cipher < 255)
-unfolding lineOk idleOk openOk stateOk
+unfolding lineOk idleOk openOk loadedOk stateOk
 small l h = by (eqb (l .mode) 0) refl
   where
+    low : (m : ℕ) → m < 255 → l .mode ≡ m → isCipher (l .cipher) ≡ true → (l .mode < 255) × (l .cipher < 255)
+    low m q e k = let c = leb-true (l .cipher) 6 (both-right (leb 1 (l .cipher)) (leb (l .cipher) 6) k) in (omega (arith, q, e), omega (arith, c))
+
+    up : (b : Bool) → eqb (l .mode) 1 ≡ b → pick b (openOk l) (both (eqb (l .mode) 2) (loadedOk l)) ≡ true → (l .mode < 255) × (l .cipher < 255)
+    up true e o = low 1 (lit< tt) (eqb-true (l .mode) 1 e) (both-left (isCipher (l .cipher)) _ (both-left (imageOk l) (changeOk (l .cipher) (l .n) (l .due) (l .waiting)) o))
+    up false e o =
+        low 2 (lit< tt) (eqb-true (l .mode) 2 (both-left (eqb (l .mode) 2) (loadedOk l) o)) (both-left (isCipher (l .cipher)) _ (both-right (eqb (l .mode) 2) (loadedOk l) o))
+
     by : (b : Bool) → eqb (l .mode) 0 ≡ b → (l .mode < 255) × (l .cipher < 255)
     by true e =
-        let i : idleOk l ≡ true = sym (ap (λ (b : Bool). pick b (idleOk l) (both (eqb (l .mode) 1) (openOk l))) e) ∙ h in
+        let i : idleOk l ≡ true = sym (ap (λ (b : Bool). pick b (idleOk l) (pick (eqb (l .mode) 1) (openOk l) (both (eqb (l .mode) 2) (loadedOk l)))) e) ∙ h in
         let m = eqb-true (l .mode) 0 e in
         let c = eqb-true (l .cipher) 0 (both-left _ _ i) in
         (omega arith, omega arith)
-    by false e =
-        let o : both (eqb (l .mode) 1) (openOk l) ≡ true = sym (ap (λ (b : Bool). pick b (idleOk l) (both (eqb (l .mode) 1) (openOk l))) e) ∙ h in
-        let m = eqb-true (l .mode) 1 (both-left _ _ o) in
-        let s = both-left (imageOk l) (changeOk (l .cipher) (l .n) (l .due) (l .waiting)) (both-right (eqb (l .mode) 1) (openOk l) o) in
-        let c = leb-true (l .cipher) 6 (both-right (leb 1 (l .cipher)) (leb (l .cipher) 6) (both-left (isCipher (l .cipher)) _ s)) in
-        (omega arith, omega arith)
+    by false e = up (eqb (l .mode) 1) refl (sym (ap (λ (b : Bool). pick b (idleOk l) (pick (eqb (l .mode) 1) (openOk l) (both (eqb (l .mode) 2) (loadedOk l)))) e) ∙ h)
 
 -- a line that is read from words and passes is one that words can hold
 pub ok-plain : (ws : List ℕ) → lineOk (lineIn ws) ≡ true → Plain (lineIn ws)
@@ -154,32 +157,48 @@ zero-by f k m =
     both-true (eq-eqb (f 0) 0 m) (both-true (eq-eqb (f 1) 0 c') (both-true (n .0) (both-true (n .1)
     (zeros-join state (f 42 ∷ f 43 ∷ waiting) (both-left (allZero state) _ t) (both-true (d .0) (both-true (d .1) (both-right due (allZero waiting) u)))))))
 
--- words that are not all zero, and whose first is not 1, are no line's
-pub no-line : (ws : List ℕ) → length ws ≡ lineSize → allZero ws ≡ false → (getD ws 0 0 ≡ 1 → ⊥) → false ≡ lineOk (lineIn ws)
+-- what is asked of a line whose mode is not 0
+abbrev used : Line → Bool
+used l = pick (eqb (l .mode) 1) (openOk l) (both (eqb (l .mode) 2) (loadedOk l))
+
+-- words whose first is neither 1 nor 2, and which are not all zero where it is 0, are no line's
+pub no-line : (ws : List ℕ) → length ws ≡ lineSize → (getD ws 0 0 ≡ 0 → allZero ws ≡ false) → (getD ws 0 0 ≡ 1 → ⊥) → (getD ws 0 0 ≡ 2 → ⊥) → false ≡ lineOk (lineIn ws)
 unfolding lineOk lineIn
-no-line ws n z m = by (lineOk (lineIn ws)) refl
+no-line ws n z m m' = by (lineOk (lineIn ws)) refl
   where
     idle : idleOk (lineIn ws) ≡ true → getD ws 0 0 ≡ 0 → false ≡ true
-    idle i o = sym z ∙ ap allZero (each ws n) ∙ zero-by (λ k. getD ws k 0) (sym (ap (λ (x : List ℕ). idleOk (lineIn x)) (each ws n)) ∙ i) o
+    idle i o = sym (z o) ∙ ap allZero (each ws n) ∙ zero-by (λ k. getD ws k 0) (sym (ap (λ (x : List ℕ). idleOk (lineIn x)) (each ws n)) ∙ i) o
 
     passes : (b : Bool) → eqb (min (getD ws 0 0) 255) 0 ≡ b → lineOk (lineIn ws) ≡ true → false ≡ true
     passes true e h =
         let o = eqb-true (min (getD ws 0 0) 255) 0 e in
-        idle (sym (ap (λ (b : Bool). pick b (idleOk (lineIn ws)) (both (eqb (lineIn ws .mode) 1) (openOk (lineIn ws)))) e) ∙ h) (omega (arith, o))
+        idle (sym (ap (λ (b : Bool). pick b (idleOk (lineIn ws)) (used (lineIn ws))) e) ∙ h) (omega (arith, o))
     passes false e h =
-        let o : both (eqb (lineIn ws .mode) 1) (openOk (lineIn ws)) ≡ true =
-        sym (ap (λ (b : Bool). pick b (idleOk (lineIn ws)) (both (eqb (lineIn ws .mode) 1) (openOk (lineIn ws)))) e) ∙ h in
-        let k = eqb-true (min (getD ws 0 0) 255) 1 (both-left _ _ o) in
-        absurd (m (omega (arith, k)))
+        let k = ne-eqb (min (getD ws 0 0) 255) 1 (λ q. m (omega (arith, q))) in
+        let o : both (eqb (lineIn ws .mode) 2) (loadedOk (lineIn ws)) ≡ true =
+        sym (ap (λ (b : Bool). pick b (openOk (lineIn ws)) (both (eqb (lineIn ws .mode) 2) (loadedOk (lineIn ws)))) k) ∙ sym (ap (λ (b : Bool). pick b (idleOk (lineIn ws)) (used (lineIn ws))) e) ∙ h in
+        let two = eqb-true (min (getD ws 0 0) 255) 2 (both-left (eqb (lineIn ws .mode) 2) (loadedOk (lineIn ws)) o) in
+        absurd (m' (omega (arith, two)))
 
     by : (b : Bool) → lineOk (lineIn ws) ≡ b → false ≡ b
     by true e = passes (eqb (min (getD ws 0 0) 255) 0) refl e
     by false e = refl
 
+-- a line's test, by its first word
+by-mode : (ws : List ℕ) (x : ℕ) → getD ws 0 0 ≡ x → lineOk (lineIn ws)
+    ≡ pick (eqb (min x 255) 0) (idleOk (lineIn ws)) (pick (eqb (min x 255) 1) (openOk (lineIn ws)) (both (eqb (min x 255) 2) (loadedOk (lineIn ws))))
+unfolding lineOk lineIn
+by-mode ws x m =
+    ap (λ (x : ℕ). pick (eqb (min x 255) 0) (idleOk (lineIn ws)) (pick (eqb (min x 255) 1) (openOk (lineIn ws)) (both (eqb (min x 255) 2) (loadedOk (lineIn ws))))) m
+
 -- words whose first is 1 are an open line's where the rest is
 pub open-line : (ws : List ℕ) → getD ws 0 0 ≡ 1 → openOk (lineIn ws) ≡ lineOk (lineIn ws)
 unfolding lineOk lineIn
-open-line ws m = sym (ap (λ (x : ℕ). pick (eqb (min x 255) 0) (idleOk (lineIn ws)) (both (eqb (min x 255) 1) (openOk (lineIn ws)))) m)
+open-line ws m = sym (by-mode ws 1 m)
+
+-- and those whose first is 2 a loaded one's
+pub loaded-line : (ws : List ℕ) → getD ws 0 0 ≡ 2 → loadedOk (lineIn ws) ≡ lineOk (lineIn ws)
+loaded-line ws m = sym (by-mode ws 2 m)
 
 -- ---- a line's words, written
 
@@ -188,12 +207,12 @@ pub four-stored : (a b c d : ℕ) (o : List ℕ) → headWords ≤ length o → 
 four-stored a b c d o h = sets-eq (a ∷ b ∷ c ∷ d ∷ []) o 0 h
 
 -- a state among zeros, and the words before it
-pub head-state : (c n : ℕ) (state zs ys ws : List ℕ) → zs ≡ lineWords idleLine → length state ≡ stateWords → ys ≡ state ++ drop (length state) (take stateWords (drop headWords zs)) →
-    ws ≡ (1 ∷ c ∷ n / 2 ^ 32 ∷ n % 2 ^ 32 ∷ []) ++ drop headWords (putMid headWords stateWords zs ys) → ws ≡ lineWords (plainLine 1 c n state)
+pub head-state : (m c n : ℕ) (state zs ys ws : List ℕ) → zs ≡ lineWords idleLine → length state ≡ stateWords → ys ≡ state ++ drop (length state) (take stateWords (drop headWords zs)) →
+    ws ≡ (m ∷ c ∷ n / 2 ^ 32 ∷ n % 2 ^ 32 ∷ []) ++ drop headWords (putMid headWords stateWords zs ys) → ws ≡ lineWords (plainLine m c n state)
 unfolding lineWords
-head-state c n state zs ys ws z k y e =
+head-state m c n state zs ys ws z k y e =
     let s : ys ≡ state = y ∙ ap₂ (λ (i : ℕ) (x : List ℕ). state ++ drop i (take stateWords (drop headWords x))) k z ∙ append-nil state in
-    e ∙ ap₂ (λ (x v : List ℕ). (1 ∷ c ∷ n / 2 ^ 32 ∷ n % 2 ^ 32 ∷ []) ++ drop headWords (putMid headWords stateWords x v)) z s
+    e ∙ ap₂ (λ (x v : List ℕ). (m ∷ c ∷ n / 2 ^ 32 ∷ n % 2 ^ 32 ∷ []) ++ drop headWords (putMid headWords stateWords x v)) z s
 
 -- a state that came back from where it was lent, and the words before it written anew; the change that waits stays
 back-by : (m c n m₀ c₀ n₀ d : ℕ) (f : ℕ → ℕ) (v state : List ℕ) →

@@ -1,4 +1,4 @@
-// What the words of a line are: its fields read from them, and the words of an open line, of a change that waits and of an idle line.
+// What the words of a line are: its fields read from them, and the words of an open or a loaded line, of a change that waits and of an idle line.
 // The caller must ensure that a line has its words.
 ghost use mathlib.Core.Path.{_≡_};
 ghost use mathlib.Core.List.{[], _∷_, _++_};
@@ -85,15 +85,15 @@ pub fn clear(line: &mut [u32])
     }
 }
 
-// The words of an open line with nothing waiting.
-pub fn put_words(cipher: u8, n: u64, state: &[u32], line: &mut [u32])
+// The words of a line in this mode with nothing waiting.
+pub fn put_words(mode: u32, cipher: u8, n: u64, state: &[u32], line: &mut [u32])
     requires { ⌜ length (now line) ≡ lineSize ⌝ }
     requires { ⌜ length (now state) ≡ stateWords ⌝ }
-    ensures { λ _. ⌜ now (line .exit) ≡ lineWords (plainLine 1 cipher n (now (state .entry))) ⌝ }
+    ensures { λ _. ⌜ now (line .exit) ≡ lineWords (plainLine mode cipher n (now (state .entry))) ⌝ }
 {
     clear(line);
     buffer::put_words(state, &mut line[HEAD..DUE]);
-    put_head(1, cipher, n, line);
+    put_head(mode, cipher, n, line);
 }
 
 // A number's two words.

@@ -53,7 +53,7 @@ fn open_line<'a>(
     }
     let number = number_of(cipher);
     let state = first_state(cipher, key, iv);
-    card_layout::put_line(number, 0, &state, card, i);
+    card_layout::put_line(1, number, 0, &state, card, i);
     accepted(used, 0, 0)
 }
 

@@ -9,7 +9,7 @@ use lib.ListN.{length, length-set, replicate}
 use borrow.Author.Tests.{eqb-false}
 use Rattle.words.specs.Tests.{pick}
 use Rattle.card_sizes.specs.Sizes.{lineCount, cardSize}
-use Rattle.machine.specs.Machine.{Machine, Seen, Shown, Call, Effect, refuse, put, crypt, park, resume, change, idle, seen, shows, public, decide, perform, step, cardStep, freshMachine}
+use Rattle.machine.specs.Machine.{Machine, Seen, Shown, Call, Effect, refuse, put, crypt, park, resume, change, start, idle, seen, shows, public, decide, perform, step, cardStep, freshMachine}
 use Rattle.machine.specs.Calls.{Made, madeOf, callsOf, CallBytes}
 use Rattle.machine.proofs.Simulation.{GoodCard, step-same, step-good, fresh-good, fresh-seen}
 use Rattle.card_layout.specs.Words.{cardIn, cardWords}
@@ -39,6 +39,7 @@ module _ {m : Machine} {ws : List ℕ} (t : Stored m ws) (a : Call) (b : CallByt
   eight-on (park i size) = length-set (m .lines) i idle ∙ t .eight
   eight-on (resume i l k size) = length-set (m .lines) i l ∙ t .eight
   eight-on (change i p s size) = length-set (m .lines) i _ ∙ t .eight
+  eight-on (start i iv size) = length-set (m .lines) i _ ∙ t .eight
 
   eight-next : length (step m a .machine .lines) ≡ lineCount
   unfolding step
@@ -51,6 +52,7 @@ module _ {m : Machine} {ws : List ℕ} (t : Stored m ws) (a : Call) (b : CallByt
   kept-by (park i size) f = absurd (f refl)
   kept-by (resume i l k size) f = absurd (f refl)
   kept-by (change i p s size) f = absurd (f refl)
+  kept-by (start i iv size) f = absurd (f refl)
 
   kept : (step m a .outcome .code ≡ 0 → ⊥) → seen m ≡ seen (step m a .machine)
   unfolding step

@@ -17,7 +17,7 @@ use Rattle.words.proofs.Tests.{both-left, both-right}
 use Rattle.card_sizes.specs.Sizes.{lineCount, imageLength}
 use Rattle.command.specs.Rows.{Row, unless, codeOf}
 use Rattle.command.proofs.Rows.{AllPassed, code-yes, code-no}
-use Rattle.machine.specs.Machine.{Line, MLine, View, Seen, noView, Effect, refuse, put, crypt, park, resume, change, refuseIf, idle, idleLine, based, shown, moved, enciphered, changed, viewOf, viewAt, isIdle, isOpen, lineOk, openOk, idleOk, allOk, imageOf, back, seen, withLine, withLineSeen, withParksSeen}
+use Rattle.machine.specs.Machine.{Line, MLine, View, Seen, noView, Effect, refuse, put, crypt, park, resume, change, start, refuseIf, idle, idleLine, based, shown, moved, enciphered, changed, startedLine, viewOf, viewAt, isIdle, isOpen, isLoaded, lineOk, openOk, loadedOk, idleOk, allOk, imageOf, back, seen, withLine, withLineSeen, withParksSeen}
 use Rattle.machine.specs.Parks.{Parks, lastPark, noMore, numberNow, parked, holds, taken, parksOk}
 use Rattle.machine.specs.Calls.{lineOn}
 use Rattle.machine.proofs.Moves.{enciphered-length}
@@ -54,7 +54,11 @@ sound-plain ws s i h =
 -- a line that says it is open is well formed
 pub open-ok-of : (l : Line) → lineOk l ≡ true → l .mode ≡ 1 → openOk l ≡ true
 unfolding lineOk
-open-ok-of l a m = sym (ap (λ (x : ℕ). pick (eqb x 0) (idleOk l) (both (eqb x 1) (openOk l))) m) ∙ a
+open-ok-of l a m = sym (ap (λ (x : ℕ). pick (eqb x 0) (idleOk l) (pick (eqb x 1) (openOk l) (both (eqb x 2) (loadedOk l)))) m) ∙ a
+
+pub loaded-ok-of : (l : Line) → lineOk l ≡ true → l .mode ≡ 2 → loadedOk l ≡ true
+unfolding lineOk
+loaded-ok-of l a m = sym (ap (λ (x : ℕ). pick (eqb x 0) (idleOk l) (pick (eqb x 1) (openOk l) (both (eqb x 2) (loadedOk l)))) m) ∙ a
 
 -- ---- what the rows ask of the line that a command names
 
@@ -76,8 +80,14 @@ module _ (ws : List ℕ) (i : ℕ) where
   pub shut-is : {m : ℕ} → m ≡ lineOn (cardIn ws) i .mode → (b : Bool) → eqb m 1 ≡ b → not (isOpen (publicOf ws) i) ≡ not b
   shut-is e b h = ap not (ap (λ (v : View). eqb (v .mode) 1) view-is ∙ ap (λ (x : ℕ). eqb x 1) (sym e) ∙ h)
 
+  pub idle-is : {m : ℕ} → m ≡ lineOn (cardIn ws) i .mode → (b : Bool) → eqb m 0 ≡ b → isIdle (publicOf ws) i ≡ b
+  idle-is e b h = ap (λ (v : View). eqb (v .mode) 0) view-is ∙ ap (λ (x : ℕ). eqb x 0) (sym e) ∙ h
+
   pub busy-is : {m : ℕ} → m ≡ lineOn (cardIn ws) i .mode → (b : Bool) → eqb m 0 ≡ b → not (isIdle (publicOf ws) i) ≡ not b
-  busy-is e b h = ap not (ap (λ (v : View). eqb (v .mode) 0) view-is ∙ ap (λ (x : ℕ). eqb x 0) (sym e) ∙ h)
+  busy-is e b h = ap not (idle-is e b h)
+
+  pub unloaded-is : {m : ℕ} → m ≡ lineOn (cardIn ws) i .mode → (b : Bool) → eqb m 2 ≡ b → not (isLoaded (publicOf ws) i) ≡ not b
+  unloaded-is e b h = ap not (ap (λ (v : View). eqb (v .mode) 2) view-is ∙ ap (λ (x : ℕ). eqb x 2) (sym e) ∙ h)
 
 -- what the rows ask of the parks
 
@@ -170,13 +180,25 @@ module _ (ws text out : List ℕ) where
           out-is = g ∙ ap₂ (λ (x : List ℕ) (j : ℕ). x ++ drop j out) w lw;
         }
 
+    -- a line that is made of the one that was there
+    anew : (f : MLine → MLine) (l : Line) → l ≡ shown (f (based (lineOn (cardIn ws) i))) → l ≡ shown (f (getD (map based (cardIn ws .lines)) i idle))
+    anew f l e = e ∙ ap (λ (x : MLine). shown (f x)) (sym base-is)
+
     pub given-change : (p : ℕ) (s' : List ℕ) (size : ℕ) (l : Line) → l ≡ shown (changed (based (lineOn (cardIn ws) i)) p s') → Plain l → {ws' : List ℕ} → ws' ≡ putLine ws i l →
         {r : Outcome} → r ≡ acceptance size 0 0 → EffectLeaves ws text out (change i p s' size) r ws' out
     unfolding outcomeOf outOf wordsOf
     given-change p s' size l e f h k =
         let m = getD (map based (cardIn ws .lines)) i idle in
-        let e' = e ∙ ap (λ (x : MLine). shown (changed x p s')) (sym base-is) in
+        let e' = anew (λ x. changed x p s') l e in
         record { outcome-is = k; card-is = placed-seen (changed m p s') l e' f h; words-are = placed-words (changed m p s') l e' h; out-is = refl }
+
+    pub given-start : (iv : List ℕ) (size : ℕ) (l : Line) → l ≡ shown (startedLine (based (lineOn (cardIn ws) i)) iv) → Plain l → {ws' : List ℕ} → ws' ≡ putLine ws i l →
+        {r : Outcome} → r ≡ acceptance size 0 0 → EffectLeaves ws text out (start i iv size) r ws' out
+    unfolding outcomeOf outOf wordsOf
+    given-start iv size l e f h k =
+        let m = getD (map based (cardIn ws .lines)) i idle in
+        let e' = anew (λ x. startedLine x iv) l e in
+        record { outcome-is = k; card-is = placed-seen (startedLine m iv) l e' f h; words-are = placed-words (startedLine m iv) l e' h; out-is = refl }
 
     -- and then its parks
     module _ (m : MLine) (l : Line) (e : l ≡ shown m) (p : Plain l) (ok : lineOk l ≡ true) (f : Parks → Parks) where

@@ -6,7 +6,7 @@ use mathlib.Core.List.{List, []}
 use Prim.Native.Nat.{ℕ}
 use borrow.Author.Tests.{ne-eqb}
 use Rattle.words.specs.Tests.{pick}
-use Rattle.machine.specs.Machine.{Machine, Seen, Call, Reply, Effect, refuse, put, crypt, park, resume, change, answer, perform, decide, public, back, step, cardStep}
+use Rattle.machine.specs.Machine.{Machine, Seen, Call, Reply, Effect, refuse, put, crypt, park, resume, change, start, answer, perform, decide, public, back, step, cardStep}
 use Rattle.machine.proofs.Codes.{of-card, code-small}
 use Rattle.card_layout.specs.Words.{cardIn, cardWords}
 use Rattle.card_outcome.specs.declared.Outcome.{Outcome}
@@ -24,6 +24,7 @@ performed m text (crypt i n size) f = absurd (f refl)
 performed m text (park i size) f = absurd (f refl)
 performed m text (resume i l k size) f = absurd (f refl)
 performed m text (change i p s size) f = absurd (f refl)
+performed m text (start i iv size) f = absurd (f refl)
 
 zeros : (c : Seen) (a : Call) → Zeros (cardStep c a .outcome)
 unfolding step

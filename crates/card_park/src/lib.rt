@@ -74,7 +74,7 @@ pub fn run_resume(card: &mut [u32], i: u8, command: &[u8]) -> Outcome
     if !held {
         return refused(14);
     }
-    card_layout::put_line(cipher, n, &state, card, i);
+    card_layout::put_line(1, cipher, n, &state, card, i);
     card_parks::take_up(card, number);
     accepted(RESUME, 0, 0)
 }
@@ -85,7 +85,7 @@ pub fn run_close(card: &mut [u32], i: u8) -> Outcome
     ensures { λ r. ⌜ ((a : Call) → CommandLeaves (now (card .entry)) (Close i) a r (now (card .exit)) (a .out)) ⌝ }
 {
     let mode = card_layout::mode_at(card, i);
-    if mode != 1 {
+    if mode == 0 {
         return refused(6);
     }
     card_layout::clear_line(card, i);

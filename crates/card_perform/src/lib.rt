@@ -1,4 +1,4 @@
-// What each command does to a card, on the card's borrowed words: the opens, crypt, park, resume, close and change.
+// What each command does to a card, on the card's borrowed words: the opens, crypt, park, resume, close, change, load and start.
 // The caller must ensure that the card is as a call leaves it, and that the command is read.
 ghost use mathlib.Core.Path.{_≡_};
 ghost use Rattle.command.specs.Decode.{decodeOf};
@@ -7,6 +7,8 @@ ghost use Rattle.card_layout.specs.Words.{Sound};
 ghost use Rattle.card_outcome.specs.Leaves.{callOf, CommandLeaves};
 use card_change::run_change;
 use card_crypt::run_crypt;
+use card_load::run_load;
+use card_load::run_start;
 use card_open::run_own;
 use card_open::run_tray;
 use card_outcome::Outcome;
@@ -41,5 +43,7 @@ pub fn perform<'a>(
             key,
             position,
         } => run_change(card, line, key, position, tray, command),
+        Command::Load { line, cipher, key } => run_load(card, line, cipher, key, tray),
+        Command::Start { line } => run_start(card, line, command),
     }
 }

@@ -109,3 +109,14 @@ resumeImage = 2
 
 abbrev pub resumeLength : ℕ
 resumeLength = resumeImage + imageLength
+
+-- a load: kind, line, cipher, key number
+abbrev pub loadLength : ℕ
+loadLength = 4
+
+-- a start: kind, line, IV
+abbrev pub startIv : ℕ
+startIv = 2
+
+abbrev pub startLength : ℕ
+startLength = startIv + ivLength

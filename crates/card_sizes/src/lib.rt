@@ -79,3 +79,11 @@ pub const CHANGE: usize = CHANGE_AT + 8;
 pub const RESUME_IMAGE: usize = 2;
 
 pub const RESUME: usize = RESUME_IMAGE + IMAGE;
+
+// A load: kind, line, cipher, key number.
+pub const LOAD: usize = 4;
+
+// A start: kind, line, IV.
+pub const START_IV: usize = 2;
+
+pub const START: usize = START_IV + IV;

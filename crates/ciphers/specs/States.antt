@@ -5,6 +5,7 @@ use mathlib.Core.List.{List, [], _∷_, _++_}
 use Prim.Native.Nat.{ℕ, _+_, _*_, _/_, _^_}
 use lib.ListN.{getD, take, drop, replicate}
 use Rattle.words.specs.Lists.{tab}
+use Rattle.words.specs.Strings.{bytesOf}
 use Rattle.zuc.specs.declared.Zuc.{Zuc}
 use Rattle.rabbit.specs.declared.Rabbit.{Rabbit}
 use Rattle.snow2.specs.declared.Snow2.{Snow2}
@@ -58,3 +59,8 @@ mugiWords s = halves (s .a ++ s .b)
 
 unfoldable pub mugiState : List ℕ → Mugi
 mugiState w = record { a = tab 3 (blockIn w); b = tab 16 (λ i. blockIn w (3 + i)) }
+
+-- words one after the other, each in four bytes
+abbrev pub spelt : List ℕ → List ℕ
+spelt [] = []
+spelt (w ∷ ws) = bytesOf w ++ spelt ws

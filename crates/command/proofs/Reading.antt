@@ -6,7 +6,7 @@ use mathlib.Core.Bool.{Bool, true, false}
 use mathlib.Core.List.{List, [], _∷_}
 use Prim.Native.Nat.{ℕ, _<_, _≤_}
 use native.Mathlib.Omega.{arith}
-use lib.Dec.{T, ltb, leb, eqb, leb→le}
+use lib.Dec.{T, leb, eqb, leb→le}
 use lib.ListN.{length, getD}
 use borrow.Author.Tests.{ltb-false, eqb-true}
 use Rattle.words.specs.Tests.{both, pick}
@@ -58,7 +58,12 @@ unfolding openOf cryptOf changeOf
 forms-say =
     each-says (λ s. says-cipher (readOf (getD s 2 0)) _ (λ c. says-run refl refl))
     (each-says (λ s. says-cipher (readOf (getD s 2 0)) _ (λ c. says-run refl refl))
-    (each-says (λ s. says-run refl refl) (each-says (λ s. says-run refl refl) (each-says (λ s. says-run refl refl) (each-says (λ s. says-run refl refl) (each-says (λ s. says-run refl refl) none-says))))))
+    (each-says (λ s. says-run refl refl)
+    (each-says (λ s. says-run refl refl)
+    (each-says (λ s. says-run refl refl)
+    (each-says (λ s. says-run refl refl)
+    (each-says (λ s. says-run refl refl)
+    (each-says (λ s. says-cipher (readOf (getD s 2 0)) _ (λ c. says-run refl refl)) (each-says (λ s. says-run refl refl) none-says))))))))
 
 -- ---- a command
 

@@ -7,14 +7,14 @@ use lib.Dec.{ltb, eqb}
 use lib.ListN.{length, getD}
 use Rattle.words.specs.Strings.{wordAt}
 use Rattle.words.specs.Tests.{pick}
-use Rattle.card_sizes.specs.Sizes.{trayIv, trayLength, ownIv, ownLength, cryptLength, parkLength, resumeLength, closeLength, changeIv, changeAt, changeLength}
+use Rattle.card_sizes.specs.Sizes.{trayIv, trayLength, ownIv, ownLength, cryptLength, parkLength, resumeLength, closeLength, changeIv, changeAt, changeLength, loadLength, startIv, startLength}
 use Rattle.command.specs.Rows.{Row, _when_, unless}
 use Rattle.command.specs.declared.Cipher.{Cipher}
 use Rattle.command.specs.declared.Cipher.the-variants.{Zuc, Rabbit, Snow128, Snow256, Kcipher2, Mugi}
 use Rattle.command.specs.declared.CipherRead.{CipherRead}
 use Rattle.command.specs.declared.CipherRead.the-variants.{Is, Unknown}
 use Rattle.command.specs.declared.Command.{Command}
-use Rattle.command.specs.declared.Command.the-variants.{Tray, Own, Crypt, Park, Resume, Close, Change}
+use Rattle.command.specs.declared.Command.the-variants.{Tray, Own, Crypt, Park, Resume, Close, Change, Load, Start}
 use Rattle.command.specs.declared.Decoded.{Decoded}
 use Rattle.command.specs.declared.Decoded.the-variants.{Run, Refused}
 
@@ -38,9 +38,11 @@ abbrev pub withCipher : CipherRead → (Cipher → Decoded) → Decoded
 withCipher (Is c) f = f c
 withCipher Unknown f = Refused 4
 
--- an open: line, cipher, and of one from the tray the key number
+-- an open or a load: line, cipher, and with a key of the tray the key number
 unfoldable pub openOf : ℕ → List ℕ → Decoded
-openOf k s = withCipher (readOf (getD s 2 0)) (λ c. pick (eqb k 1) (Run (Tray (getD s 1 0) c (getD s 3 0))) (Run (Own (getD s 1 0) c)))
+openOf k s =
+    withCipher (readOf (getD s 2 0))
+    (λ c. pick (eqb k 1) (Run (Tray (getD s 1 0) c (getD s 3 0))) (pick (eqb k 2) (Run (Own (getD s 1 0) c)) (Run (Load (getD s 1 0) c (getD s 3 0)))))
 
 -- a crypt: line, count in two bytes
 unfoldable pub cryptOf : List ℕ → Decoded
@@ -69,6 +71,8 @@ forms =
     ∷ form 5 resumeLength (λ s. Run (Resume (getD s 1 0)))
     ∷ form 6 closeLength (λ s. Run (Close (getD s 1 0)))
     ∷ form 7 changeLength changeOf
+    ∷ form 8 loadLength (openOf 8)
+    ∷ form 9 startLength (λ s. Run (Start (getD s 1 0)))
     ∷ []
 
 abbrev pub sizeIn : List Form → ℕ → ℕ
@@ -79,7 +83,7 @@ abbrev pub readIn : List Form → ℕ → List ℕ → Decoded
 readIn [] k s = Refused 2
 readIn (f ∷ fs) k s = pick (eqb k (f .kind)) (f .read s) (readIn fs k s)
 
--- the length of a command by its first byte, and 0 where that is not 01 to 07
+-- the length of a command by its first byte, and 0 where that is not 01 to 09
 unfoldable pub lengthOf : ℕ → ℕ
 lengthOf k = sizeIn forms k
 
@@ -126,6 +130,8 @@ operandsOf (Park i) = record { kind = 4; line = i; cipher = 0; keyNumber = 0; iv
 operandsOf (Resume i) = record { kind = 5; line = i; cipher = 0; keyNumber = 0; ivAt = 0; count = 0; position = 0 }
 operandsOf (Close i) = record { kind = 6; line = i; cipher = 0; keyNumber = 0; ivAt = 0; count = 0; position = 0 }
 operandsOf (Change i k p) = record { kind = 7; line = i; cipher = 0; keyNumber = k; ivAt = changeIv; count = 0; position = p }
+operandsOf (Load i c k) = record { kind = 8; line = i; cipher = numberOf c; keyNumber = k; ivAt = 0; count = 0; position = 0 }
+operandsOf (Start i) = record { kind = 9; line = i; cipher = 0; keyNumber = 0; ivAt = startIv; count = 0; position = 0 }
 
 -- the line that a command names, and its length
 abbrev pub lineOf : Command → ℕ

@@ -27,7 +27,7 @@ codeOf (r ∷ rs) = pick (r .given) (r .number) (codeOf rs)
 
 -- the last number of document 01's list, with document 02's, but 255
 abbrev pub lastNumber : ℕ
-lastNumber = 18
+lastNumber = 19
 
 -- ---- the commands that a row is about, by their first bytes
 

@@ -5,9 +5,11 @@ ghost use Rattle.command.specs.Decode.{readOf, lengthOf, refusalOf};
 use card_sizes::CHANGE;
 use card_sizes::CLOSE;
 use card_sizes::CRYPT;
+use card_sizes::LOAD;
 use card_sizes::OWN;
 use card_sizes::PARK;
 use card_sizes::RESUME;
+use card_sizes::START;
 use card_sizes::TRAY;
 
 pub enum Cipher {
@@ -24,7 +26,7 @@ pub enum CipherRead {
     Unknown,
 }
 
-// A command with its operands. Key and IV of an open, the IV of a change, and the image of a resume stay in the command's bytes.
+// A command with its operands. Key and IV of an open, the IV of a change or a start, and the image of a resume stay in the command's bytes.
 pub enum Command {
     Tray { line: u8, cipher: Cipher, key: u8 },
     Own { line: u8, cipher: Cipher },
@@ -33,6 +35,8 @@ pub enum Command {
     Resume { line: u8 },
     Close { line: u8 },
     Change { line: u8, key: u8, position: u64 },
+    Load { line: u8, cipher: Cipher, key: u8 },
+    Start { line: u8 },
 }
 
 pub enum Decoded {
@@ -67,6 +71,8 @@ pub fn length_of(kind: u8) -> usize
         5 => RESUME,
         6 => CLOSE,
         7 => CHANGE,
+        8 => LOAD,
+        9 => START,
         _ => 0,
     }
 }

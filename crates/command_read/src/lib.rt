@@ -18,7 +18,7 @@ fn wide(x: u8) -> usize
     x as usize
 }
 
-// An open, from the tray or with its own key.
+// An open, from the tray or with its own key, or a load.
 fn read_open(kind: u8, s: &[u8]) -> Decoded
     requires { ⌜ 4 ≤ length (now s) ⌝ }
     ensures { λ r. ⌜ r ≡ openOf kind (now (s .entry)) ⌝ }
@@ -32,7 +32,10 @@ fn read_open(kind: u8, s: &[u8]) -> Decoded
     if kind == 1 {
         return Decoded::Run(Command::Tray { line, cipher, key });
     }
-    Decoded::Run(Command::Own { line, cipher })
+    if kind == 2 {
+        return Decoded::Run(Command::Own { line, cipher });
+    }
+    Decoded::Run(Command::Load { line, cipher, key })
 }
 
 // A crypt.
@@ -78,6 +81,8 @@ fn read_command(kind: u8, s: &[u8]) -> Decoded
         5 => Decoded::Run(Command::Resume { line }),
         6 => Decoded::Run(Command::Close { line }),
         7 => read_change(s),
+        8 => read_open(kind, s),
+        9 => Decoded::Run(Command::Start { line }),
         _ => Decoded::Refused(2),
     }
 }

@@ -1,4 +1,4 @@
--- The edges of document 01, and of its parks and changes of key by document 02, on whole calls: real command bytes on a card of eight lines, and for each call its code, its three counts and,
+-- The edges of document 01, and of its parks, changes of key, loads and starts by document 02, on whole calls: real command bytes on a card of eight lines, and for each call its code, its three counts and,
 -- where it is accepted, what the lines and the parks are after it.
 -- Assumes nothing.
 use mathlib.Core.List.{List, [], _∷_, _++_, map}
@@ -72,6 +72,10 @@ held l k ns = record { lines = set (eight .lines) 7 l; parks = record { count = 
 abbrev waiting : Seen
 waiting = with 4 (beforeChange 3 (end - 2) (set blank 0 0x01020304) end (set blank 0 0x05060708))
 
+-- that card with line 1 loaded with Rabbit and line 6 with SNOW 2.0, its key's last word alone not 0
+abbrev loadedTwo : Seen
+loadedTwo = record { lines = set (with 6 (plainLine 2 3 0 (set blank 3 1)) .lines) 1 (plainLine 2 2 0 blank); parks = eight .parks }
+
 -- ---- commands in bytes
 
 abbrev crypt : (i count : ℕ) → List ℕ
@@ -96,6 +100,13 @@ own i c k v = 2 ∷ i ∷ c ∷ (ones 32 k ++ ones 16 v)
 -- key number k of the tray, and an IV of so many ones; the position's fifth byte from its end and its last
 abbrev change : (i number iv high low : ℕ) → List ℕ
 change i k v h l = 7 ∷ i ∷ k ∷ (ones 16 v ++ (0 ∷ 0 ∷ 0 ∷ h ∷ 0 ∷ 0 ∷ 0 ∷ l ∷ []))
+
+abbrev load : (i cipher number : ℕ) → List ℕ
+load i c k = 8 ∷ i ∷ c ∷ k ∷ []
+
+-- an IV of so many ones
+abbrev start : (i iv : ℕ) → List ℕ
+start i v = 9 ∷ i ∷ ones 16 v
 
 -- a state's 152 bytes: words of the one byte that is given, zeros behind them
 abbrev spelled : (words byte : ℕ) → List ℕ
@@ -179,8 +190,13 @@ unfoldable pub reads : List Step
 reads =
     answer eight (lent [] 0 0 0) gives refusal 1
     ∷ answer eight (lent (0 ∷ []) 0 0 0) gives refusal 2
-    ∷ answer eight (lent (8 ∷ []) 0 0 0) gives refusal 2
+    ∷ answer eight (lent (10 ∷ []) 0 0 0) gives refusal 2
     ∷ answer eight (lent (7 ∷ []) 0 0 0) gives refusal 1
+    ∷ answer eight (lent (take 3 (load 8 7 0)) 0 0 0) gives refusal 1
+    ∷ answer eight (lent (load 8 7 0) 0 0 0) gives refusal 3
+    ∷ answer eight (lent (load 2 7 0) 0 0 0) gives refusal 4
+    ∷ answer eight (lent (take 17 (start 8 16)) 0 0 0) gives refusal 1
+    ∷ answer eight (lent (start 8 16) 0 0 0) gives refusal 3
     ∷ answer eight (lent (3 ∷ 2 ∷ 0 ∷ []) 0 0 0) gives refusal 1
     ∷ answer eight (lent (6 ∷ []) 0 0 0) gives refusal 1
     -- cut short before a line over 7
@@ -436,12 +452,61 @@ comings =
     ∷ []
 
 -- 255 before all others, whichever line it is
+-- loads and starts: 5, 9, 10, 7, 16 of a load, 19 and 7 of a start, and every command on a loaded line
+unfoldable pub loads : List Step
+loads =
+    answer eight (lent (load 2 1 0) 33 0 0) gives refusal 5
+    ∷ answer loadedTwo (lent (load 1 1 0) 33 0 0) gives refusal 5
+    ∷ answer eight (lent (load 0 1 0) 33 0 0) gives refusal 9
+    ∷ answer eight (lent (load 0 1 1) 32 0 0) gives refusal 10
+    -- 7 before 16, of the key alone
+    ∷ answer eight (keyed (load 0 1 0) (zeros 16 ++ ones 16 1)) gives refusal 7
+    ∷ answer eight (keyed (load 0 1 0) (zeros 32)) gives refusal 16
+    ∷ answer eight (keyed (load 0 4 0) (zeros 31 ++ ones 1 1)) gives accepted 4 0 0
+    -- a load has no IV: what is behind it is not judged
+    ∷ answer eight (lent (load 0 2 0 ++ ones 16 9) 32 0 0) gives accepted 4 0 0
+    -- what is kept: the key's words, of Rabbit a state, which is not they
+    ∷ stateOn 0 eight (keyed (load 0 4 0) (zeros 31 ++ ones 1 1)) gives (zeros 7 ++ (1 ∷ zeros 30))
+    ∷ modes eight (lent (load 0 1 0) 32 0 0) gives (2 ∷ 0 ∷ 1 ∷ 1 ∷ 1 ∷ 1 ∷ 0 ∷ 1 ∷ [])
+    -- a loaded line: 5, 6, and a close that empties it
+    ∷ answer loadedTwo (lent (own 1 1 16 16) 0 0 0) gives refusal 5
+    ∷ answer loadedTwo (lent (fromTray 6 1 0 16) 32 0 0) gives refusal 5
+    ∷ answer loadedTwo (lent (bring 6 3) 0 0 0) gives refusal 5
+    ∷ answer loadedTwo (lent (crypt 6 0) 0 0 0) gives refusal 6
+    ∷ answer loadedTwo (lent (park 1) 0 0 imageLength) gives refusal 6
+    ∷ answer loadedTwo (lent (change 6 0 16 0 0) 32 0 0) gives refusal 6
+    ∷ answer loadedTwo (lent (close 6) 0 0 0) gives accepted 2 0 0
+    ∷ modes loadedTwo (lent (close 6) 0 0 0) gives (0 ∷ 2 ∷ 1 ∷ 1 ∷ 1 ∷ 1 ∷ 0 ∷ 1 ∷ [])
+    ∷ stateOn 6 loadedTwo (lent (close 6) 0 0 0) gives blank
+    -- 19 on an idle line and on an open one, before 7; and 7 by the line's cipher
+    ∷ answer eight (lent (start 0 16) 0 0 0) gives refusal 19
+    ∷ answer eight (lent (start 3 9) 0 0 0) gives refusal 19
+    ∷ answer loadedTwo (lent (start 1 9) 0 0 0) gives refusal 7
+    ∷ answer loadedTwo (lent (start 1 8) 0 0 0) gives accepted 18 0 0
+    ∷ answer loadedTwo (lent (start 6 16) 0 0 0) gives accepted 18 0 0
+    ∷ modes loadedTwo (lent (start 6 16) 0 0 0) gives (0 ∷ 2 ∷ 1 ∷ 1 ∷ 1 ∷ 1 ∷ 1 ∷ 1 ∷ [])
+    -- a second start is 19
+    ∷ answer (done loadedTwo (lent (start 1 8) 0 0 0)) (lent (start 1 8) 0 0 0) gives refusal 19
+    -- a load and a start leave what an open leaves
+    ∷ stateOn 0 (done eight (keyed (load 0 2 0) (ones 32 16))) (lent (start 0 8) 0 0 0) gives stateOn 0 eight (keyed (fromTray 0 2 0 8) (ones 32 16))
+    ∷ []
+
 unfoldable pub damage : List Step
 damage =
     answer (with 0 (plainLine 0 1 0 blank)) (lent [] 0 0 0) gives refusal 255
     ∷ answer (with 6 (plainLine 0 0 1 blank)) (lent (close 2) 0 0 0) gives refusal 255
     ∷ answer (with 1 (plainLine 0 0 0 (set blank 37 1))) (lent (close 2) 0 0 0) gives refusal 255
+    ∷ answer (with 7 (plainLine 3 5 0 blank)) (lent (close 2) 0 0 0) gives refusal 255
+    -- a loaded line: a key all zero, a word behind the key, a position, a change, a cipher that is none, a carry of 2; and those that pass
     ∷ answer (with 7 (plainLine 2 5 0 blank)) (lent (close 2) 0 0 0) gives refusal 255
+    ∷ answer (with 7 (plainLine 2 5 0 (set (set blank 0 1) 4 1))) (lent (close 2) 0 0 0) gives refusal 255
+    ∷ answer (with 7 (plainLine 2 5 1 (set blank 0 1))) (lent (close 2) 0 0 0) gives refusal 255
+    ∷ answer (with 7 (record { mode = 2; cipher = 5; n = 0; words = set blank 0 1; due = 1; waiting = blank })) (lent (close 2) 0 0 0) gives refusal 255
+    ∷ answer (with 7 (record { mode = 2; cipher = 5; n = 0; words = set blank 0 1; due = 0; waiting = set blank 37 1 })) (lent (close 2) 0 0 0) gives refusal 255
+    ∷ answer (with 7 (plainLine 2 7 0 (set blank 0 1))) (lent (close 2) 0 0 0) gives refusal 255
+    ∷ answer (with 7 (plainLine 2 2 0 (set blank 16 (2 ^ 25)))) (lent (close 2) 0 0 0) gives refusal 255
+    ∷ answer (with 7 (plainLine 2 2 0 (set blank 16 (2 ^ 24)))) (lent (close 2) 0 0 0) gives accepted 2 0 0
+    ∷ answer (with 7 (plainLine 2 4 0 (set blank 7 1))) (lent (close 2) 0 0 0) gives accepted 2 0 0
     ∷ answer (with 3 (openLine 7 0 blank)) (lent (close 2) 0 0 0) gives refusal 255
     ∷ answer (with 7 (openLine 5 (end + 1) blank)) (lent (close 2) 0 0 0) gives refusal 255
     ∷ answer (with 3 (openLine 1 0 blank)) (lent (close 2) 0 0 0) gives refusal 255
@@ -466,4 +531,4 @@ damage =
     ∷ []
 
 unfoldable pub calls : List Step
-calls = reads ++ (openness ++ (opens ++ (images ++ (crypts ++ (parks ++ (changes ++ (comings ++ damage)))))))
+calls = reads ++ (openness ++ (opens ++ (images ++ (crypts ++ (parks ++ (changes ++ (comings ++ (loads ++ damage))))))))

@@ -13,16 +13,16 @@ use borrow.Author.Tests.{le-leb, lt-leb, eqb-true}
 use Rattle.words.specs.Tests.{pick}
 use Rattle.card_moves.specs.Moves.{comesDue, positionOn}
 use Rattle.card_moves.proofs.Due.{due-told, not-told}
-use Rattle.machine.specs.Machine.{MLine, Line, Machine, Seen, lineAt, idle, plain, shown, along, renewed, moved, limit, lastNumber, Call, Effect, refuse, put, crypt, park, resume, change, step, shows, freshMachine, freshCard}
+use Rattle.machine.specs.Machine.{MLine, Line, Machine, Seen, lineAt, idle, plain, shown, along, renewed, moved, limit, lastNumber, Call, Effect, refuse, put, crypt, park, resume, change, start, step, shows, freshMachine, freshCard}
 use Rattle.machine.specs.Calls.{Made, madeOf, machineRun, callsOf, cardAfter, lineOn, AllBytes}
-use Rattle.lists.specs.Logs.{Did, did-nothing, did-open, did-crypt, did-park, did-resume, did-close, did-change, did, Stream, Log, begun, joined, placeAt, standing, newStream, noted, logAfter, logOf}
+use Rattle.lists.specs.Logs.{Did, did-nothing, did-open, did-crypt, did-park, did-resume, did-close, did-change, did-load, did-start, did, Stream, Log, begun, joined, placeAt, standing, newStream, noted, logAfter, logOf}
 use Rattle.lists.specs.OneStream.{Stands}
 use Rattle.lists.specs.Counted.{streamAt, positionAt, Positions, Takes, Counted}
 use Rattle.machine.proofs.Moves.{moved-past, moved-short, moved-pos}
-use Rattle.machine.proofs.Lines.{Good, good-idle, good-open, due-low}
+use Rattle.machine.proofs.Lines.{Good, good-idle, good-loaded, good-open, due-low}
 use Rattle.machine.proofs.Simulation.{GoodCard, good-get, Fair, fair-crypt, fair-step}
 use Rattle.lists.proofs.Streams.{Held, place-yes, place-no, seen-at, held-streamed}
-use Rattle.lists.proofs.Explained.{Explained, was-refused, was-open, was-crypt, was-park, was-resume, was-close, was-change}
+use Rattle.lists.proofs.Explained.{Explained, was-refused, was-open, was-crypt, was-park, was-resume, was-close, was-change, was-load, was-start}
 use Rattle.lists.proofs.OneStream.{machineAfter, Runs, runs, Reached, reached, reached-fresh, explained-at, place, told-at, line-after, log-last, on-its-line}
 use Rattle.machine.proofs.Codes.{code-small}
 
@@ -176,6 +176,8 @@ module _ (m : Machine) (good : GoodCard m) (a : Call) (i : ℕ) (g : Log) (h : H
   note-ordered (park j size) (did-park _ _) (was-park n q z r) _ = pick-ordered (eqb j i) _ g (λ _. begun-ordered idle) o
   note-ordered (resume j _ k size) (did-resume _ image) (was-resume n _) _ = pick-ordered (eqb j i) _ g (λ _. begun-ordered _) o
   note-ordered (put j _ size) (did-close _) (was-close n) _ = pick-ordered (eqb j i) _ g (λ _. begun-ordered idle) o
+  note-ordered (put j _ size) (did-load _ c key) (was-load n f k) _ = pick-ordered (eqb j i) _ g (λ _. begun-ordered _) o
+  note-ordered (start j _ size) (did-start _ iv) (was-start n up) _ = pick-ordered (eqb j i) _ g (λ _. begun-ordered _) o
   note-ordered (change j p _ size) (did-change _ _ key iv) (was-change n up z le) _ = pick-ordered (eqb j i) _ g (λ _. change-ordered g p _ o) o
 
 pub step-ordered : (m : Machine) (c : Seen) (g : ℕ → Log) (x : Made) → Reached m c g → AllBytes (x ∷ []) → x ≡ madeOf (x .call) (shows (step m (x .call))) → ((i : ℕ) → Ordered (g i)) →
@@ -190,6 +192,7 @@ all-ordered (x ∷ xs) m c g r h b o i =
 
 good-within : (l : MLine) → Good l → l .pos ≤ limit
 good-within l good-idle = lit≤ tt
+good-within l (good-loaded g w) = lit≤ tt
 good-within l (good-open m c p b f w) = p
 
 -- ---- the list

@@ -3,25 +3,30 @@
 use mathlib.Core.Path.{_≡_, refl, sym, subst}
 use mathlib.Core.Bool.{true, false}
 use mathlib.Core.List.{List, _++_}
-use Prim.Native.Nat.{ℕ, _<_, _≤_}
+use Prim.Native.Nat.{ℕ, _*_, _<_, _≤_}
 use lib.Dec.{eqb}
 use lib.ListN.{length, getD, take, drop}
 use lib.Seq.{take-at}
 use borrow.Author.Tests.{ltb-false, not-false}
 use Rattle.words.specs.Tests.{pick}
+use Rattle.words.specs.Lists.{All, Byte}
+use Rattle.words.proofs.Ranges.{all-drop}
+use Rattle.card_sizes.specs.Sizes.{keyLength}
+use Rattle.ciphers.specs.Table.{cipherAt}
+use Rattle.ciphers.proofs.States.{all-take}
 use Rattle.command.specs.declared.Command.{Command}
-use Rattle.command.specs.declared.Command.the-variants.{Tray, Own, Crypt, Park, Resume, Close, Change}
+use Rattle.command.specs.declared.Command.the-variants.{Tray, Own, Crypt, Park, Resume, Close, Change, Load, Start}
 use Rattle.command.specs.declared.Decoded.{Decoded}
 use Rattle.command.specs.declared.Decoded.the-variants.{Run, Refused}
-use Rattle.command.specs.Decode.{decodeOf, operandsOf, lineOf, sizeOf}
+use Rattle.command.specs.Decode.{decodeOf, numberOf, operandsOf, lineOf, sizeOf}
 use Rattle.command.proofs.Rows.{not-zero}
 use Rattle.command.proofs.Reading.{ReadIn, refused-in, run-in, Has, read-in}
-use Rattle.machine.specs.Machine.{Machine, lineAt, idle, shown, based, opened, enciphered, streamOf, imageOf, imageLine, imageNumber, Call, Effect, refuse, put, crypt, park, resume, change, public, keyField, ivField, viewOf, effectOf, ofDecoded, decide, perform, step, shows}
+use Rattle.machine.specs.Machine.{Machine, lineAt, idle, shown, based, opened, loadedLine, enciphered, streamOf, imageOf, imageLine, imageNumber, Call, Effect, refuse, put, crypt, park, resume, change, start, public, keyField, ivField, ivFor, viewOf, effectOf, ofDecoded, decide, perform, step, shows}
 use Rattle.machine.specs.Parks.{noMore, numberNow, holds}
 use Rattle.machine.specs.Calls.{Made, madeOf}
-use Rattle.lists.specs.Logs.{Did, did-nothing, did-open, did-crypt, did-park, did-resume, did-close, did-change, doneBy, did}
+use Rattle.lists.specs.Logs.{Did, did-nothing, did-open, did-crypt, did-park, did-resume, did-close, did-change, did-load, did-start, doneBy, did}
 use Rattle.machine.proofs.Rows.{Passed, passed, decided-by}
-use Rattle.machine.proofs.Simulation.{of-view, is-open, none-due, not-below}
+use Rattle.machine.proofs.Simulation.{of-view, is-open, is-loaded, key-length, none-due, not-below}
 
 -- the line that a call names
 pub record Names (a : Call) (j : ℕ) : Type 0 where
@@ -39,6 +44,8 @@ pub data Explained (m : Machine) (a : Call) : Effect → Did → Type 0 where
   was-close : {j size : ℕ} → Names a j → Explained m a (put j idle size) (did-close j)
   was-change : {j p size : ℕ} {key iv : List ℕ} → Names a j → lineAt m j .mode ≡ 1 → lineAt m j .due ≡ 0 → lineAt m j .pos ≤ p →
       Explained m a (change j p (streamOf (lineAt m j .cipher) key iv) size) (did-change j p key iv)
+  was-load : {j size c : ℕ} {key : List ℕ} → Names a j → (All Byte (a .tray) → All Byte key) → length key ≡ cipherAt c .key → Explained m a (put j (loadedLine c key) size) (did-load j c key)
+  was-start : {j size : ℕ} {iv : List ℕ} → Names a j → lineAt m j .mode ≡ 2 → Explained m a (start j (ivFor (lineAt m j .cipher) iv) size) (did-start j iv)
 
 module _ (m : Machine) (a : Call) where
   abbrev made : Effect → Made
@@ -83,6 +90,18 @@ module _ (m : Machine) (a : Call) where
         is =
             subst (λ (c : ℕ). Explained m a (change i q (streamOf c key iv) (sizeOf (Change i k q))) (did-change i q key iv)) (sym (of-view m a i (λ v. v .cipher)))
             (was-change (names (Change i k q) h) (is-open m a i (passed 6 p)) (none-due m a i (passed 17 p)) (not-below m a i q (passed 18 p)));
+      }
+  explains-effect (Load i c k) h p =
+      record {
+        is =
+            was-load (names (Load i c k) h) (λ b. all-take (cipherAt (numberOf c) .key) (all-take keyLength (all-drop (keyLength * k) b))) (key-length m a (numberOf c) k (passed 10 p));
+      }
+  explains-effect (Start i) h p =
+      let iv = ivField (operandsOf (Start i)) a in
+      record {
+        is =
+            subst (λ (c : ℕ). Explained m a (start i (ivFor c iv) (sizeOf (Start i))) (did-start i iv)) (sym (of-view m a i (λ v. v .cipher)))
+            (was-start (names (Start i) h) (is-loaded m a i (passed 19 p)));
       }
 
   explains-decoded : (d : Decoded) → ReadIn (a .command) d → Explains d (ofDecoded d (public m) a)

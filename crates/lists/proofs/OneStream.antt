@@ -10,19 +10,21 @@ use lib.ListN.{length, getD, set, length-set, replicate}
 use lib.Seq.{length-take-le, getD-set-same, getD-set-other}
 use borrow.Author.Tests.{eq-eqb, ne-eqb, leb-true}
 use Rattle.words.specs.Tests.{pick}
+use Rattle.words.specs.Lists.{All, Byte}
 use Rattle.ciphers.specs.Table.{cipherAt}
+use Rattle.ciphers.proofs.Kept.{start-load}
 use Rattle.words.proofs.Tests.{both-right}
-use Rattle.machine.specs.Machine.{Line, MLine, Machine, Seen, lineAt, zeros, idle, plainLine, unitAt, stateOf, byteOf, shown, based, moved, changed, opened, streamOf, imageOf, imageLine, imageNumber, Call, Effect, refuse, put, crypt, park, resume, change, public, decide, perform, step, seen, shows, freshMachine, freshCard}
+use Rattle.machine.specs.Machine.{Line, MLine, Machine, Seen, lineAt, zeros, idle, plainLine, unitAt, stateOf, byteOf, shown, based, moved, changed, opened, loadedLine, startedLine, plain, ivFor, streamOf, imageOf, imageLine, imageNumber, Call, Effect, refuse, put, crypt, park, resume, change, start, public, decide, perform, step, seen, shows, freshMachine, freshCard}
 use Rattle.machine.specs.Parks.{Parks, noMore, numberNow, parked, holds, taken}
-use Rattle.machine.specs.Calls.{Made, madeOf, machineRun, callsOf, cardAfter, lineOn, AllBytes}
-use Rattle.lists.specs.Logs.{Did, did-nothing, did-open, did-crypt, did-park, did-resume, did-close, did-change, did, Log, begun, noted, logAfter, logOf, standing}
-use Rattle.lists.specs.OneStream.{Streamed, GoesOn, On, Kept, Stands, OneStream}
-use Rattle.machine.proofs.Lines.{opened-shown, Waits, none-waits, one-waits, Good, good-idle, good-open, good-behind, shown-based, state-fit}
+use Rattle.machine.specs.Calls.{Made, madeOf, machineRun, callsOf, cardAfter, lineOn, CallBytes, AllBytes}
+use Rattle.lists.specs.Logs.{Did, did-nothing, did-open, did-crypt, did-park, did-resume, did-close, did-change, did-load, did-start, did, Log, begun, noted, logAfter, logOf, standing}
+use Rattle.lists.specs.OneStream.{Streamed, GoesOn, On, AllOff, Kept, Stands, OneStream}
+use Rattle.machine.proofs.Lines.{opened-shown, Waits, none-waits, one-waits, Good, good-idle, good-loaded, good-open, good-behind, shown-based, state-fit}
 use Rattle.machine.proofs.Simulation.{GoodCard, good-get, step-good, fresh-good, fresh-seen}
 use Rattle.machine.proofs.Parks.{number-word, Spent, spent-refused, taken-spent, taken-keeps, parked-keeps}
 use Rattle.machine.proofs.Fields.{Sized}
 use Rattle.lists.proofs.Images.{image-goes-on}
-use Rattle.lists.proofs.Explained.{Names, Explained, was-refused, was-open, was-crypt, was-park, was-resume, was-close, was-change, explained}
+use Rattle.lists.proofs.Explained.{Names, Explained, was-refused, was-open, was-crypt, was-park, was-resume, was-close, was-change, was-load, was-start, explained}
 use Rattle.lists.proofs.Streams.{bare, Held, held-here, standing-begun, idle-held, effect-held, seen-at, held-streamed}
 
 -- ---- a list that is the machine's, call by call
@@ -85,6 +87,7 @@ perform-eight m text (crypt i n size) = length-set (m .lines) i _
 perform-eight m text (park i size) = length-set (m .lines) i idle
 perform-eight m text (resume i l k size) = length-set (m .lines) i l
 perform-eight m text (change i p s size) = length-set (m .lines) i _
+perform-eight m text (start i iv size) = length-set (m .lines) i _
 
 -- what a call of the list did, from the machine at its place
 pub explained-at : (m : Machine) (x : Made) → x ≡ madeOf (x .call) (shows (step m (x .call))) → Explained m (x .call) (decide (public m) (x .call)) (did x)
@@ -121,6 +124,7 @@ clear l (one-waits a u f) e = absurd (omega (arith, a, e))
 pub sized : (l : MLine) → Good l → l .mode ≡ 1 → l .due ≡ 0 → Sized (shown l)
 unfolding shown
 sized l good-idle e d = absurd (let z : _≡_ {A = ℕ} 0 1 = e in omega arith)
+sized l (good-loaded g w) e d = absurd (let z : _≡_ {A = ℕ} 2 1 = e in omega (arith, z))
 sized l (good-open m c p b f w) e d =
     let s = state-fit l (unitAt l) f in
     let k = leb-true (l .cipher) 6 (both-right (leb 1 (l .cipher)) (leb (l .cipher) 6) c) in
@@ -141,32 +145,41 @@ pub record ResumeTook (m m' : Machine) (i : ℕ) (image : List ℕ) : Type 0 whe
   pub held : holds (m .parks) (imageNumber image) ≡ true
   pub took : m' .parks ≡ taken (m .parks) (imageNumber image)
 
--- what a call did says of the line that it names, after the call; a park, of what it wrote; a resume, of the number that it took up
-abbrev pub Tells : Machine → Machine → Did → Type 0
-Tells m m' did-nothing = Unit {0}
-Tells m m' (did-open i c key iv) = lineAt m' i ≡ opened c key iv
-Tells m m' (did-crypt i input output) = lineAt m' i ≡ moved (lineAt m i) (length input)
-Tells m m' (did-park i image) = ParkWrote m m' i image
-Tells m m' (did-resume i image) = ResumeTook m m' i image
-Tells m m' (did-close i) = lineAt m' i ≡ idle
-Tells m m' (did-change i p key iv) = lineAt m' i ≡ changed (lineAt m i) p (streamOf (lineAt m i .cipher) key iv)
+pub record LoadKept (a : Call) (m' : Machine) (i c : ℕ) (key : List ℕ) : Type 0 where
+  pub line : lineAt m' i ≡ loadedLine c key
+  pub bytes : All Byte (a .tray) → All Byte key
+  pub full : length key ≡ cipherAt c .key
+
+-- what a call did says of the line that it names, after the call; a load, of its key; a park, of what it wrote; a resume, of the number that it took up
+abbrev pub Tells : Call → Machine → Machine → Did → Type 0
+Tells a m m' did-nothing = Unit {0}
+Tells a m m' (did-open i c key iv) = lineAt m' i ≡ opened c key iv
+Tells a m m' (did-crypt i input output) = lineAt m' i ≡ moved (lineAt m i) (length input)
+Tells a m m' (did-park i image) = ParkWrote m m' i image
+Tells a m m' (did-resume i image) = ResumeTook m m' i image
+Tells a m m' (did-close i) = lineAt m' i ≡ idle
+Tells a m m' (did-load i c key) = LoadKept a m' i c key
+Tells a m m' (did-start i iv) = lineAt m' i ≡ startedLine (lineAt m i) (ivFor (lineAt m i .cipher) iv)
+Tells a m m' (did-change i p key iv) = lineAt m' i ≡ changed (lineAt m i) p (streamOf (lineAt m i .cipher) key iv)
 
 module _ (m : Machine) (eight : length (m .lines) ≡ 8) (a : Call) where
   set-at : (j : ℕ) (l : MLine) → Names a j → getD (set (m .lines) j l) j idle ≡ l
   set-at j l n = let b = n .below in getD-set-same (m .lines) j l idle (omega arith)
 
-  tells : (e : Effect) (d : Did) → Explained m a e d → Tells m (perform m (a .text) e .machine) d
+  tells : (e : Effect) (d : Did) → Explained m a e d → Tells a m (perform m (a .text) e .machine) d
   tells (refuse k) did-nothing was-refused = tt
   tells (put j _ size) (did-open _ _ _ _) (was-open n) = set-at j _ n
   tells (crypt j k size) (did-crypt _ _ _) (was-crypt n h) = set-at j _ n ∙ ap (moved (lineAt m j)) (sym (length-take-le k (a .text) h))
   tells (park j size) (did-park _ _) (was-park n h d z) = record { below = n .below; counted = refl; up = h; none-due = d; left = z; is = refl }
   tells (resume j _ k size) (did-resume _ _) (was-resume n h) = record { line = set-at j _ n; held = h; took = refl }
   tells (put j _ size) (did-close _) (was-close n) = set-at j idle n
+  tells (put j _ size) (did-load _ _ _) (was-load n f k) = record { line = set-at j _ n; bytes = f; full = k }
+  tells (start j _ size) (did-start _ _) (was-start n up) = set-at j _ n
   tells (change j p _ size) (did-change _ _ _ _) (was-change n up d le) = set-at j _ n
 
   -- by what it did, known by an equation
-  told : (e : Effect) (d : Did) → Explained m a e d → (d' : Did) → d ≡ d' → Tells m (perform m (a .text) e .machine) d'
-  told e d x d' q = subst (Tells m (perform m (a .text) e .machine)) q (tells e d x)
+  told : (e : Effect) (d : Did) → Explained m a e d → (d' : Did) → d ≡ d' → Tells a m (perform m (a .text) e .machine) d'
+  told e d x d' q = subst (Tells a m (perform m (a .text) e .machine)) q (tells e d x)
 
 -- a call that is not an accepted one on line i
 module _ (m : Machine) (a : Call) (i : ℕ) where
@@ -186,6 +199,8 @@ module _ (m : Machine) (a : Call) (i : ℕ) where
   other-line (park j size) (did-park _ _) (was-park n h d z) f = kept j idle n (f refl)
   other-line (resume j _ k size) (did-resume _ _) (was-resume n h) f = kept j _ n (f refl)
   other-line (put j _ size) (did-close _) (was-close n) f = kept j idle n (f refl)
+  other-line (put j _ size) (did-load _ _ _) (was-load n g k) f = kept j _ n (f refl)
+  other-line (start j _ size) (did-start _ _) (was-start n up) f = kept j _ n (f refl)
   other-line (change j p _ size) (did-change _ _ _ _) (was-change n up d le) f = kept j _ n (f refl)
 
   other-log : (e : Effect) (d : Did) → Explained m a e d → Apart e → (g : Log) → noted i g d ≡ g
@@ -195,6 +210,8 @@ module _ (m : Machine) (a : Call) (i : ℕ) where
   other-log (park j size) (did-park _ _) (was-park n h d z) f g = no-note j _ g n (f refl)
   other-log (resume j _ k size) (did-resume _ _) (was-resume n h) f g = no-note j _ g n (f refl)
   other-log (put j _ size) (did-close _) (was-close n) f g = no-note j _ g n (f refl)
+  other-log (put j _ size) (did-load _ _ _) (was-load n b k) f g = no-note j _ g n (f refl)
+  other-log (start j _ size) (did-start _ _) (was-start n up) f g = no-note j _ g n (f refl)
   other-log (change j p _ size) (did-change _ _ _ _) (was-change n up d le) f g = no-note j _ g n (f refl)
 
 -- ---- two calls of a list
@@ -227,6 +244,7 @@ module _ (P : Parks → Type 0) (by-park : (p : Parks) (i : ℕ) → P p → P (
   parks-step m text (park i size) h = by-park (m .parks) i h
   parks-step m text (resume i l k size) h = by-resume (m .parks) k h
   parks-step m text (change i p s size) h = h
+  parks-step m text (start i iv size) h = h
 
   parks-after : (xs : List Made) (m : Machine) → P (m .parks) → P (machineAfter m xs .parks)
   unfolding step
@@ -238,6 +256,23 @@ module _ (P : Parks → Type 0) (by-park : (p : Parks) (i : ℕ) → P p → P (
 
 pub spent-since : {before sofar : List Made} {p : Made} (k : ℕ) → (t : Stands before p sofar) → Spent (machineNext before p .parks) k → Spent (machineAfter freshMachine sofar .parks) k
 spent-since k t h = parks-since (λ q. Spent q k) (λ q i. parked-keeps q i k) (λ q j. taken-keeps q j k) t h
+
+-- a line on which no call between two of them was accepted is as it was
+line-kept : (i : ℕ) (ys : List Made) (m : Machine) → Runs m ys → AllOff i ys → lineAt (machineAfter m ys) i ≡ lineAt m i
+unfolding step
+line-kept i [] m r o = refl
+line-kept i (y ∷ ys) m r o =
+    line-kept i ys (step m (y .call) .machine) (r .1) (o .1)
+    ∙ other-line m (y .call) i (decide (public m) (y .call)) (did y) (explained-at m y (r .0)) (λ z n. o .0 (record { accepted = ap (λ (x : Made). x .code) (r .0) ∙ z; line-is = n }))
+
+bytes-at : (before : List Made) (x : Made) (after : List Made) → AllBytes (before ++ (x ∷ after)) → CallBytes (x .call)
+bytes-at [] x after b = b .0
+bytes-at (y ∷ before) x after b = bytes-at before x after (b .1)
+
+-- a loaded line that is started is opened with the key that was loaded
+pub loaded-starts : (c : ℕ) (key iv : List ℕ) → All Byte key → length key ≡ cipherAt c .key → startedLine (loadedLine c key) (ivFor c iv) ≡ opened c key (ivFor c iv)
+unfolding startedLine loadedLine opened
+loaded-starts c key iv b e = ap (λ (s : List ℕ). plain 1 c s 0 0) (start-load c key (ivFor c iv) b e)
 
 no-more : true ≡ false → ⊥
 no-more e = let z : _≡_ {A = ℕ} 0 1 = cc in omega (arith, z)
@@ -271,7 +306,7 @@ module _ (xs : List Made) (is : xs ≡ machineRun freshMachine (callsOf xs)) (by
       runs-front (t .after) (x ∷ s .after) (machineNext before p) (runs-back before (p ∷ w .after) freshMachine (subst (Runs freshMachine) (w .is) (runs xs freshMachine is)) .1)
 
   -- what it did tells
-  pub told-at : {before : List Made} {x : Made} → Stands before x xs → (d : Did) → did x ≡ d → Tells (machineAfter freshMachine before) (machineNext before x) d
+  pub told-at : {before : List Made} {x : Made} → Stands before x xs → (d : Did) → did x ≡ d → Tells (x .call) (machineAfter freshMachine before) (machineNext before x) d
   unfolding step
   told-at {before = before} {x = x} s d dx = let k = place s in told (machineAfter freshMachine before) (k .at .eight) (x .call) _ (did x) (k .did-is) d dx
 
@@ -291,6 +326,19 @@ module _ (xs : List Made) (is : xs ≡ machineRun freshMachine (callsOf xs)) (by
   from-key-at {before = before} {x = x} s i c key iv dx =
       let k = place s in
       line-after before x k i ∙ ap shown (told-at s (did-open i c key iv) dx) ∙ opened-shown c key iv
+
+  from-load-at : {before sofar : List Made} {p x : Made} → Stands sofar x xs → (t : Stands before p sofar) → (i c : ℕ) (key iv : List ℕ) → did p ≡ did-load i c key → did x ≡ did-start i iv →
+      AllOff i (t .after) → lineOn (x .card) i ≡ plainLine 1 c 0 (cipherAt c .init key (ivFor c iv))
+  unfolding step stands-in loadedLine
+  from-load-at {before = before} {sofar = sofar} {p = p} {x = x} s t i c key iv dp dx off =
+      let w = stands-in s t in
+      let k = told-at w (did-load i c key) dp in
+      let b = k .bytes (bytes-at before p (w .after) (subst AllBytes (w .is) bytes) .tray) in
+      let l : lineAt (machineAfter freshMachine sofar) i ≡ loadedLine c key =
+      ap (λ (m : Machine). lineAt m i) (later t) ∙ line-kept i (t .after) (machineNext before p) (runs-since s t) off ∙ k .line in
+      line-after sofar x (place s) i
+      ∙ ap shown (told-at s (did-start i iv) dx ∙ ap (λ (y : MLine). startedLine y (ivFor (y .cipher) iv)) l ∙ loaded-starts c key iv b (k .full))
+      ∙ opened-shown c key (ivFor c iv)
 
   from-image-at : {before : List Made} {x : Made} → Stands before x xs → (j : ℕ) (image : List ℕ) → did x ≡ did-resume j image →
       lineOn (x .card) j ≡ imageLine image
@@ -345,4 +393,4 @@ module _ (xs : List Made) (is : xs ≡ machineRun freshMachine (callsOf xs)) (by
 
   pub machine-one-stream : OneStream xs
   machine-one-stream =
-      record { machine-is = is; streams = streams-at; from-key = from-key-at; from-image = from-image-at; goes-on = goes-on-at; once = once-at; others = others-at }
+      record { machine-is = is; streams = streams-at; from-key = from-key-at; from-load = from-load-at; from-image = from-image-at; goes-on = goes-on-at; once = once-at; others = others-at }

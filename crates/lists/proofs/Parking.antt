@@ -13,17 +13,17 @@ use Rattle.words.proofs.Tests.{both-left}
 use Rattle.command.specs.declared.Command.the-variants.{Resume}
 use Rattle.command.specs.declared.Decoded.the-variants.{Run}
 use Rattle.command.specs.Decode.{decodeOf}
-use Rattle.machine.specs.Machine.{Line, MLine, Machine, Seen, lineAt, shown, imageIn, imageLine, imageNumber, imageOk, changeOk, openOk, Call, Effect, refuse, put, crypt, park, resume, change, View, viewOf, public, isIdle, refuseIf, effectOf, decided, decide, perform, step, freshMachine}
+use Rattle.machine.specs.Machine.{Line, MLine, Machine, Seen, lineAt, shown, imageIn, imageLine, imageNumber, imageOk, changeOk, openOk, Call, Effect, refuse, put, crypt, park, resume, change, start, View, viewOf, public, isIdle, refuseIf, effectOf, decided, decide, perform, step, freshMachine}
 use Rattle.machine.specs.Parks.{Parks, numberNow, parked, holds}
 use Rattle.machine.specs.Calls.{Made, machineRun, callsOf, lineOn, AllBytes}
-use Rattle.lists.specs.Logs.{Did, did-nothing, did-open, did-crypt, did-park, did-resume, did-close, did-change, did}
+use Rattle.lists.specs.Logs.{Did, did-nothing, did-open, did-crypt, did-park, did-resume, did-close, did-change, did-load, did-start, did}
 use Rattle.lists.specs.OneStream.{Stands}
 use Rattle.lists.specs.Parking.{Brings, AllLeave, ParkedCalls}
 use Rattle.machine.proofs.Lines.{Good, open-is, good-ok}
 use Rattle.machine.proofs.Parks.{Spent, spent-refused, Own, parked-own, parked-keeps-own, taken-keeps-own, replaced-spent, now-held, held-holds, parked-other, taken-other, number-word}
 use Rattle.machine.proofs.Simulation.{good-get, view-get}
 use Rattle.machine.proofs.Fields.{image-back, number-back}
-use Rattle.lists.proofs.Explained.{Explained, was-refused, was-open, was-crypt, was-park, was-resume, was-close, was-change}
+use Rattle.lists.proofs.Explained.{Explained, was-refused, was-open, was-crypt, was-park, was-resume, was-close, was-change, was-load, was-start}
 use Rattle.lists.proofs.Streams.{seen-at}
 use Rattle.lists.proofs.OneStream.{Runs, machineAfter, machineNext, explained-at, sized, stands-in, later, parks-since, spent-since, place, runs-since, told-at, spent-at}
 
@@ -37,6 +37,8 @@ held-step m a i n (crypt j k size) (did-crypt _ _ _) (was-crypt _ _) f g h = h
 held-step m a i n (park j size) (did-park _ image) (was-park _ _ _ _) f g h = parked-other (m .parks) j i (λ e. f image (ap (λ (y : ℕ). did-park y image) (sym e))) ∙ h
 held-step m a i n (resume j _ k size) (did-resume _ image) (was-resume _ _) f g h = taken-other (m .parks) (imageNumber image) i n (λ e. g j image refl e) h
 held-step m a i n (put j _ size) (did-close _) (was-close _) f g h = h
+held-step m a i n (put j _ size) (did-load _ _ _) (was-load _ _ _) f g h = h
+held-step m a i n (start j _ size) (did-start _ _) (was-start _ _) f g h = h
 held-step m a i n (change j p _ size) (did-change _ _ _ _) (was-change _ _ _ _) f g h = h
 
 held-after : (ys : List Made) (m : Machine) (i n : ℕ) → Runs m ys → AllLeave i n ys → getD (m .parks .held) i 0 ≡ n → getD (machineAfter m ys .parks .held) i 0 ≡ n

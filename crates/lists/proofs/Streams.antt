@@ -15,13 +15,13 @@ use Rattle.keystream.specs.Stream.{xorFrom}
 use Rattle.keystream.proofs.Laws.{xorFrom-append, xorFrom-agree}
 use Rattle.card_moves.specs.Moves.{comesDue}
 use Rattle.card_moves.proofs.Due.{due-told, not-told}
-use Rattle.machine.specs.Machine.{MLine, Machine, plain, lineAt, idle, idleLine, genOf, unitAt, stateOf, byteOf, shown, based, along, renewed, moved, enciphered, changed, opened, imageLine, streamOf, Call, Effect, refuse, put, crypt, park, resume, change, perform, seen}
+use Rattle.machine.specs.Machine.{MLine, Machine, plain, lineAt, idle, idleLine, genOf, unitAt, stateOf, byteOf, shown, based, along, renewed, moved, enciphered, changed, opened, loadedLine, startedLine, imageLine, ivFor, streamOf, Call, Effect, refuse, put, crypt, park, resume, change, start, perform, seen}
 use Rattle.machine.specs.Calls.{lineOn}
-use Rattle.lists.specs.Logs.{Did, did-nothing, did-open, did-crypt, did-park, did-resume, did-close, did-change, Stream, Log, begun, joined, placeAt, standing, keyByte, newStream, noted}
+use Rattle.lists.specs.Logs.{Did, did-nothing, did-open, did-crypt, did-park, did-resume, did-close, did-change, did-load, did-start, Stream, Log, begun, joined, placeAt, standing, keyByte, newStream, noted}
 use Rattle.lists.specs.OneStream.{Streamed}
 use Rattle.machine.proofs.Moves.{along-none, moved-past, moved-short, moved-bare, moved-none, moved-add, byteHere, enciphered-bytes}
 use Rattle.machine.proofs.Lines.{shown-idle}
-use Rattle.lists.proofs.Explained.{Names, Explained, was-refused, was-open, was-crypt, was-park, was-resume, was-close, was-change}
+use Rattle.lists.proofs.Explained.{Names, Explained, was-refused, was-open, was-crypt, was-park, was-resume, was-close, was-change, was-load, was-start}
 
 -- ---- the place of a joined byte
 
@@ -72,6 +72,16 @@ idle-held = begun-held 0 0 _ 0 0
 opened-held : (c : ℕ) (key iv : List ℕ) → Held (opened c key iv) (begun (opened c key iv))
 unfolding opened
 opened-held c key iv = begun-held 1 c _ 0 0
+
+loaded-held : (c : ℕ) (key : List ℕ) → Held (loadedLine c key) (begun (loadedLine c key))
+unfolding loadedLine
+loaded-held c key = begun-held 2 c _ 0 0
+
+-- a start takes cipher and key from the line, which has those that its log stands at
+started-held : (l : MLine) (g : Log) → Held l g → (iv : List ℕ) → Held (startedLine l (ivFor (l .cipher) iv)) (begun (startedLine (standing g) (ivFor (standing g .cipher) iv)))
+unfolding startedLine
+started-held l g h iv =
+    subst (λ (x : MLine). Held (startedLine l (ivFor (l .cipher) iv)) (begun (startedLine x (ivFor (x .cipher) iv)))) (sym (held-here l g h)) (begun-held 1 (l .cipher) _ 0 0)
 
 resumed-held : (image : List ℕ) → Held (based (imageLine image)) (begun (based (imageLine image)))
 unfolding based imageLine
@@ -199,6 +209,8 @@ module _ (m : Machine) (eight : length (m .lines) ≡ 8) (a : Call) (i : ℕ) (g
   effect-held (park j size) (did-park _ _) (was-park n q z r) = set-one j idle (begun idle) n (λ _. idle-held)
   effect-held (resume j _ k size) (did-resume _ image) (was-resume n h) = set-one j _ _ n (λ _. resumed-held image)
   effect-held (put j _ size) (did-close _) (was-close n) = set-one j idle (begun idle) n (λ _. idle-held)
+  effect-held (put j _ size) (did-load _ c key) (was-load n f k) = set-one j _ _ n (λ _. loaded-held c key)
+  effect-held (start j _ size) (did-start _ iv) (was-start n up) = set-one j _ _ n (λ e. started-held (lineAt m j) g (at j e) iv)
   effect-held (change j p _ size) (did-change _ _ key iv) (was-change n up z le) = set-one j _ _ n (λ e. changed-held (lineAt m j) g (at j e) z p key iv le)
 
 -- ---- what is seen of a line

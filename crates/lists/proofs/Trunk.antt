@@ -10,25 +10,26 @@ use native.Mathlib.Decide.{decLt}
 use lib.Dec.{eqb}
 use lib.ListN.{length, getD, set, take, drop, replicate, take-append-drop, length-take, length-drop}
 use lib.Seq.{getD-set-same, getD-set-other}
+use Rattle.words.specs.Lists.{All, Byte}
 use borrow.Author.Tests.{eqb-true, eqb-false}
 use Rattle.words.specs.Tests.{pick}
 use Rattle.keystream.specs.Stream.{xorFrom}
 use Rattle.keystream.proofs.Laws.{xorFrom-append, xorFrom-agree}
 use Rattle.ciphers.specs.Table.{cipherAt}
-use Rattle.machine.specs.Machine.{MLine, Machine, Seen, lineAt, idle, plain, plainLine, byteOf, shown, based, along, renewed, moved, changed, opened, imageLine, keyFor, ivFor, streamOf, Call, Effect, refuse, put, crypt, park, resume, change, public, decide, perform, step, freshMachine, freshCard}
+use Rattle.machine.specs.Machine.{MLine, Machine, Seen, lineAt, idle, plain, plainLine, byteOf, shown, based, along, renewed, moved, changed, opened, loadedLine, startedLine, imageLine, keyFor, ivFor, streamOf, Call, Effect, refuse, put, crypt, park, resume, change, start, public, decide, perform, step, freshMachine, freshCard}
 use Rattle.machine.specs.Parks.{numberNow}
-use Rattle.machine.specs.Calls.{Made, machineRun, callsOf, cardAfter, lineOn, AllBytes}
-use Rattle.lists.specs.Logs.{Did, did-nothing, did-open, did-crypt, did-park, did-resume, did-close, did-change, did, Stream, Log, begun, joined, placeAt, byteIn, standing, keyByte, newStream, noted, logAfter, logOf}
-use Rattle.lists.specs.OneStream.{GoesOn, On, Stands, OneStream}
-use Rattle.lists.specs.Trunk.{Given, no-stream, of-key, of-image, then-changed, givenBy, givenFrom, givenTo, newest, changedTo, streamsBy}
+use Rattle.machine.specs.Calls.{Made, machineRun, callsOf, cardAfter, lineOn, CallBytes, AllBytes}
+use Rattle.lists.specs.Logs.{Did, did-nothing, did-open, did-crypt, did-park, did-resume, did-close, did-change, did-load, did-start, did, Stream, Log, begun, joined, placeAt, byteIn, standing, keyByte, newStream, noted, logAfter, logOf}
+use Rattle.lists.specs.OneStream.{GoesOn, AllOff, Stands, OneStream}
+use Rattle.lists.specs.Trunk.{Given, no-stream, of-key, of-load, of-image, then-changed, startedBy, givenBy, givenFrom, givenTo, newest, changedTo, streamsBy}
 use Rattle.machine.proofs.Deciphers.{twice}
 use Rattle.machine.proofs.Moves.{moved-mode, moved-bare}
 use Rattle.machine.proofs.Parks.{number-word}
 use Rattle.machine.proofs.Fields.{image-back}
 use Rattle.machine.proofs.Simulation.{good-get}
-use Rattle.lists.proofs.Explained.{Names, Explained, was-refused, was-open, was-crypt, was-park, was-resume, was-close, was-change}
+use Rattle.lists.proofs.Explained.{Names, Explained, was-refused, was-open, was-crypt, was-park, was-resume, was-close, was-change, was-load, was-start}
 use Rattle.lists.proofs.Streams.{bare, Held, held-here, place-yes, place-no, place-begun, standing-begun, seen-at}
-use Rattle.lists.proofs.OneStream.{machineAfter, Runs, runs, Reached, reached, reached-fresh, explained-at, sized, log-last, on-its-line, stands-in, place, told-at}
+use Rattle.lists.proofs.OneStream.{machineAfter, Runs, runs, Reached, reached, reached-fresh, explained-at, sized, log-last, on-its-line, stands-in, place, told-at, loaded-starts}
 use Rattle.lists.proofs.Counted.{Chain, chain-one, chain-more, Ordered, begun-ordered, step-ordered}
 
 -- ---- the same calls, the same answers
@@ -37,11 +38,6 @@ pub same-answers : (xs ys : List Made) → OneStream xs → OneStream ys → cal
 same-answers xs ys s t e = s .machine-is ∙ ap (machineRun freshMachine) e ∙ sym (t .machine-is)
 
 -- ---- a line on hold: calls on other lines and refused ones
-
--- none of these calls is an accepted one on line i
-abbrev pub Apart : ℕ → List Made → Type 0
-Apart i [] = Unit {0}
-Apart i (x ∷ xs) = (On i x → ⊥) × Apart i xs
 
 -- line i after the calls of a list and then those of quiet, as it was before quiet
 pub record OnHold (i : ℕ) (before quiet : List Made) : Type 0 where
@@ -52,7 +48,7 @@ card-last : (c : Seen) (xs : List Made) (x : Made) → cardAfter c (xs ++ (x ∷
 card-last c [] x = refl
 card-last c (y ∷ xs) x = card-last (y .card) xs x
 
-pub on-hold : (xs : List Made) → OneStream xs → (i : ℕ) (quiet before after : List Made) → xs ≡ before ++ (quiet ++ after) → Apart i quiet → OnHold i before quiet
+pub on-hold : (xs : List Made) → OneStream xs → (i : ℕ) (quiet before after : List Made) → xs ≡ before ++ (quiet ++ after) → AllOff i quiet → OnHold i before quiet
 on-hold xs s i [] before after e a =
     record { line = ap (λ (l : List Made). lineOn (cardAfter freshCard l) i) (append-nil before); log = ap (logOf i) (append-nil before) }
 on-hold xs s i (x ∷ quiet) before after e a =
@@ -68,7 +64,7 @@ on-hold xs s i (x ∷ quiet) before after e a =
 
 -- the card after a call and then those of quiet
 held-after : (xs : List Made) → OneStream xs → {before : List Made} {x : Made} (s : Stands before x xs) (i : ℕ) (quiet after : List Made) → s .after ≡ quiet ++ after →
-    Apart i quiet → lineOn (cardAfter freshCard (before ++ (x ∷ quiet))) i ≡ lineOn (x .card) i
+    AllOff i quiet → lineOn (cardAfter freshCard (before ++ (x ∷ quiet))) i ≡ lineOn (x .card) i
 held-after xs o {before = before} {x = x} s i quiet after e a =
     ap (λ (l : List Made). lineOn (cardAfter freshCard l) i) (sym (append-assoc before (x ∷ []) quiet))
     ∙ on-hold xs o i quiet (before ++ (x ∷ [])) after
@@ -77,13 +73,13 @@ held-after xs o {before = before} {x = x} s i quiet after e a =
 
 -- An open line waits in S(0) of its cipher, key and IV, whatever comes on other lines: two ends that were given the same stand alike.
 pub opened-waits : (xs : List Made) → OneStream xs → {before : List Made} {x : Made} (s : Stands before x xs) (i c : ℕ) (key iv : List ℕ) → did x ≡ did-open i c key iv →
-    (quiet after : List Made) → s .after ≡ quiet ++ after → Apart i quiet →
+    (quiet after : List Made) → s .after ≡ quiet ++ after → AllOff i quiet →
     lineOn (cardAfter freshCard (before ++ (x ∷ quiet))) i ≡ plainLine 1 c 0 (cipherAt c .init key iv)
 opened-waits xs o s i c key iv d quiet after e a = held-after xs o s i quiet after e a ∙ o .from-key s i c key iv d
 
 -- A resumed line waits at what its image says.
 pub resumed-waits : (xs : List Made) → OneStream xs → {before : List Made} {x : Made} (s : Stands before x xs) (i : ℕ) (image : List ℕ) → did x ≡ did-resume i image →
-    (quiet after : List Made) → s .after ≡ quiet ++ after → Apart i quiet → lineOn (cardAfter freshCard (before ++ (x ∷ quiet))) i ≡ imageLine image
+    (quiet after : List Made) → s .after ≡ quiet ++ after → AllOff i quiet → lineOn (cardAfter freshCard (before ++ (x ∷ quiet))) i ≡ imageLine image
 resumed-waits xs o s i image d quiet after e a = held-after xs o s i quiet after e a ∙ o .from-image s i image d
 
 -- ---- what a line was given, and the streams that come of it
@@ -91,12 +87,22 @@ resumed-waits xs o s i image d quiet after e a = held-after xs o s i quiet after
 abbrev modeOf : Given → ℕ
 modeOf no-stream = 0
 modeOf (of-key c key iv) = 1
+modeOf (of-load c key) = 2
 modeOf (of-image image) = 1
 modeOf (then-changed t p key iv) = 1
+
+-- a key that was loaded holds bytes, as many as its cipher takes
+abbrev KeyOk : Given → Type 0
+KeyOk no-stream = Unit {0}
+KeyOk (of-key c key iv) = Unit {0}
+KeyOk (of-load c key) = All Byte key × (length key ≡ cipherAt c .key)
+KeyOk (of-image image) = Unit {0}
+KeyOk (then-changed t p key iv) = Unit {0}
 
 -- a line and its log, and what it was given
 record From (l : MLine) (g : Log) (t : Given) : Type 0 where
   pub mode : l .mode ≡ modeOf t
+  pub key : KeyOk t
   pub streams : g .streams ≡ streamsBy t
 
 -- where nothing waits, the newest stream has begun
@@ -134,6 +140,14 @@ opened-mode : (c : ℕ) (key iv : List ℕ) → opened c key iv .mode ≡ 1
 unfolding opened
 opened-mode c key iv = refl
 
+loaded-mode : (c : ℕ) (key : List ℕ) → loadedLine c key .mode ≡ 2
+unfolding loadedLine
+loaded-mode c key = refl
+
+started-mode : (l : MLine) (iv : List ℕ) → startedLine l iv .mode ≡ 1
+unfolding startedLine
+started-mode l iv = refl
+
 image-mode : (image : List ℕ) → based (imageLine image) .mode ≡ 1
 unfolding based imageLine
 image-mode image = refl
@@ -154,12 +168,32 @@ change-from l g t w h d c p le up key iv s =
     let cipher : standing g .cipher ≡ nl .cipher = ap (λ (x : MLine). x .cipher) st in
     record {
       mode = changed-mode l p s ∙ up;
+      key = tt;
       streams =
           (λ j. record { since = since j; line = plain (mode j) (cipher j) (streamOf (cipher j) key iv) 0 0 } ∷ g .streams)
           ∙ ap (λ (ss : List Stream). changedTo ss p key iv) (w .streams);
     }
 
-module _ (m : Machine) (eight : length (m .lines) ≡ 8) (a : Call) (i : ℕ) (g : Log) (h : Held (lineAt m i) g) (chain : Chain (g .streams)) (t : Given) (w : From (lineAt m i) g t) where
+-- where a loaded line's log stands, a start is an open
+start-key : (g : Log) (c : ℕ) (key iv : List ℕ) → g .streams ≡ streamsBy (of-load c key) → All Byte key → length key ≡ cipherAt c .key →
+    startedLine (standing g) (ivFor (standing g .cipher) iv) ≡ opened c key (ivFor c iv)
+unfolding loadedLine startedLine along
+start-key g c key iv e b n =
+    let st : standing g ≡ along (loadedLine c key) (length (g .ins)) =
+    ap (λ (ss : List Stream). placeAt ss (length (g .ins))) e ∙ place-begun (loadedLine c key) (length (g .ins)) in
+    ap (λ (x : MLine). startedLine x (ivFor (x .cipher) iv)) st ∙ loaded-starts c key iv b n
+
+-- a start, after the load of a key
+start-from : (l : MLine) (g : Log) (t : Given) → From l g t → l .mode ≡ 2 → (iv : List ℕ) (l' : MLine) → l' .mode ≡ 1 →
+    From l' (begun (startedLine (standing g) (ivFor (standing g .cipher) iv))) (startedBy t iv)
+start-from l g no-stream w e iv l' e' = absurd (let z : _≡_ {A = ℕ} 0 2 = sym (w .mode) ∙ e in omega (arith, z))
+start-from l g (of-key _ _ _) w e iv l' e' = absurd (let z : _≡_ {A = ℕ} 1 2 = sym (w .mode) ∙ e in omega (arith, z))
+start-from l g (of-image _) w e iv l' e' = absurd (let z : _≡_ {A = ℕ} 1 2 = sym (w .mode) ∙ e in omega (arith, z))
+start-from l g (then-changed _ _ _ _) w e iv l' e' = absurd (let z : _≡_ {A = ℕ} 1 2 = sym (w .mode) ∙ e in omega (arith, z))
+start-from l g (of-load c key) w e iv l' e' =
+    record { mode = e'; key = tt; streams = ap (λ (x : MLine). begun x .streams) (start-key g c key iv (w .streams) (w .key .0) (w .key .1)) }
+
+module _ (m : Machine) (eight : length (m .lines) ≡ 8) (a : Call) (b : CallBytes a) (i : ℕ) (g : Log) (h : Held (lineAt m i) g) (chain : Chain (g .streams)) (t : Given) (w : From (lineAt m i) g t) where
   set-from : (j : ℕ) (l : MLine) (g' : Log) (t' : Given) → Names a j → (j ≡ i → From l g' t') → From (getD (set (m .lines) j l) i idle) (pick (eqb j i) g' g) (pick (eqb j i) t' t)
   set-from j l g' t' n f = go (eqb j i) refl
     where
@@ -177,13 +211,16 @@ module _ (m : Machine) (eight : length (m .lines) ≡ 8) (a : Call) (i : ℕ) (g
 
   given-step : (e : Effect) (d : Did) → Explained m a e d → From (lineAt (perform m (a .text) e .machine) i) (noted i g d) (givenBy i t d)
   given-step (refuse k) did-nothing was-refused = w
-  given-step (put j _ size) (did-open _ c key iv) (was-open n) = set-from j _ _ _ n (λ _. record { mode = opened-mode c key iv; streams = refl })
+  given-step (put j _ size) (did-open _ c key iv) (was-open n) = set-from j _ _ _ n (λ _. record { mode = opened-mode c key iv; key = tt; streams = refl })
   given-step (crypt j k size) (did-crypt _ x y) (was-crypt n q) =
       subst (From _ _) (pick-same (eqb j i))
-      (set-from j (moved (lineAt m j) k) (joined g _ _) t n (λ e. record { mode = moved-mode (lineAt m j) k ∙ ap (λ (x : ℕ). lineAt m x .mode) e ∙ w .mode; streams = w .streams }))
-  given-step (park j size) (did-park _ _) (was-park n q z r) = set-from j _ _ _ n (λ _. record { mode = refl; streams = refl })
-  given-step (resume j _ k size) (did-resume _ image) (was-resume n q) = set-from j _ _ _ n (λ _. record { mode = image-mode image; streams = refl })
-  given-step (put j _ size) (did-close _) (was-close n) = set-from j _ _ _ n (λ _. record { mode = refl; streams = refl })
+      (set-from j (moved (lineAt m j) k) (joined g _ _) t n (λ e. record { mode = moved-mode (lineAt m j) k ∙ ap (λ (x : ℕ). lineAt m x .mode) e ∙ w .mode; key = w .key; streams = w .streams }))
+  given-step (park j size) (did-park _ _) (was-park n q z r) = set-from j _ _ _ n (λ _. record { mode = refl; key = tt; streams = refl })
+  given-step (resume j _ k size) (did-resume _ image) (was-resume n q) = set-from j _ _ _ n (λ _. record { mode = image-mode image; key = tt; streams = refl })
+  given-step (put j _ size) (did-close _) (was-close n) = set-from j _ _ _ n (λ _. record { mode = refl; key = tt; streams = refl })
+  given-step (put j _ size) (did-load _ c key) (was-load n f k) = set-from j _ _ _ n (λ _. record { mode = loaded-mode c key; key = (f (b .tray), k); streams = refl })
+  given-step (start j _ size) (did-start _ iv) (was-start n up) =
+      set-from j _ _ _ n (λ e. start-from (lineAt m i) g t w (subst (λ (x : ℕ). lineAt m x .mode ≡ 2) e up) iv _ (started-mode (lineAt m j) _))
   given-step (change j p s size) (did-change _ _ key iv) (was-change n up z le) =
       set-from j _ _ _ n
       (λ e. subst (λ (l : MLine). From (changed l p s) (newStream g p (streamOf (standing g .cipher) key iv)) (then-changed t p key iv)) (ap (lineAt m) (sym e))
@@ -196,7 +233,7 @@ givens [] m c g r h b o i t w = w
 givens (x ∷ xs) m c g r h b o i t w =
     givens xs (step m (x .call) .machine) (x .card) (λ j. noted j (g j) (did x)) (reached (x ∷ []) m c g r (h .0, tt) (b .0, tt)) (h .1) (b .1)
     (step-ordered m c g x r (b .0, tt) (h .0) o) i (givenBy i t (did x))
-    (given-step m (r .eight) (x .call) i (g i) (r .held i) (o i .chain) t w (decide (public m) (x .call)) (did x) (explained-at m x (h .0)))
+    (given-step m (r .eight) (x .call) (b .0) i (g i) (r .held i) (o i .chain) t w (decide (public m) (x .call)) (did x) (explained-at m x (h .0)))
 
 fresh-line : (i : ℕ) → lineAt freshMachine i ≡ idle
 fresh-line i = go 8 i
@@ -210,7 +247,7 @@ fresh-line i = go 8 i
 pub streams-given : (xs : List Made) → OneStream xs → AllBytes xs → (i : ℕ) → logOf i xs .streams ≡ streamsBy (givenTo i xs)
 streams-given xs s b i =
     givens xs freshMachine freshCard (λ j. begun idle) reached-fresh (runs xs freshMachine (s .machine-is)) b (λ _. begun-ordered idle) i no-stream
-    (record { mode = ap (λ (l : MLine). l .mode) (fresh-line i); streams = refl }) .streams
+    (record { mode = ap (λ (l : MLine). l .mode) (fresh-line i); key = tt; streams = refl }) .streams
 
 -- ---- the two ends of a trunk
 
@@ -222,7 +259,7 @@ heard near far s s' i j e q =
     ∙ ap₂ (λ (x : List Stream) (y : List ℕ). xorFrom (byteIn x) 0 y) e (q ∙ s .streams i .outputs)
     ∙ twice (keyByte (logOf i near)) 0 (logOf i near .ins)
 
--- Two ends whose lines were given the same (opened with one cipher, key and IV, or resumed with one image, and then given the same changes at the same positions, whenever each came) hear each
+-- Two ends whose lines were given the same (opened, or loaded and started, with one cipher, key and IV, or resumed with one image, and then given the same changes at the same positions, whenever each came) hear each
 -- other.
 pub both-ends-hear : (near far : List Made) → OneStream near → OneStream far → AllBytes near → AllBytes far → (i j : ℕ) → givenTo i near ≡ givenTo j far →
     logOf j far .ins ≡ logOf i near .outs → logOf j far .outs ≡ logOf i near .ins

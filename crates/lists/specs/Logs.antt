@@ -5,11 +5,11 @@ use mathlib.Core.List.{List, [], _∷_, _++_}
 use lib.ListN.{length, take}
 use lib.Dec.{eqb, leb}
 use Rattle.words.specs.Tests.{pick}
-use Rattle.command.specs.declared.Command.the-variants.{Tray, Own, Crypt, Park, Resume, Close, Change}
+use Rattle.command.specs.declared.Command.the-variants.{Tray, Own, Crypt, Park, Resume, Close, Change, Load, Start}
 use Rattle.command.specs.declared.Decoded.{Decoded}
 use Rattle.command.specs.declared.Decoded.the-variants.{Run, Refused}
 use Rattle.command.specs.Decode.{decodeOf, numberOf, operandsOf}
-use Rattle.machine.specs.Machine.{MLine, idle, plain, along, byteOf, opened, based, imageLine, imageIn, keyField, ivField, keyFor, ivFor, streamOf}
+use Rattle.machine.specs.Machine.{MLine, idle, plain, along, byteOf, opened, loadedLine, startedLine, based, imageLine, imageIn, keyField, ivField, keyFor, ivFor, streamOf}
 use Rattle.machine.specs.Calls.{Made}
 
 -- ---- what a call did, by what it was lent and what it answered
@@ -22,9 +22,11 @@ pub data Did : Type 0 where
   did-resume : (i : ℕ) (image : List ℕ) → Did
   did-close : (i : ℕ) → Did
   did-change : (i p : ℕ) (key iv : List ℕ) → Did
+  did-load : (i c : ℕ) (key : List ℕ) → Did
+  did-start : (i : ℕ) (iv : List ℕ) → Did
 
--- An accepted command. A crypt's input is the data it uses, its output what it writes. Of a change the bytes of key and IV are all that stand in tray and command: its line's cipher says how many
--- it takes.
+-- An accepted command. A crypt's input is the data it uses, its output what it writes. Of a change the bytes of key and IV are all that stand in tray and command, and of a start those of its IV: the
+-- line's cipher says how many are taken.
 abbrev pub doneBy : Made → Decoded → Did
 doneBy x (Run (Tray i c k)) = did-open i (numberOf c) (keyFor (numberOf c) (keyField (operandsOf (Tray i c k)) (x .call))) (ivFor (numberOf c) (ivField (operandsOf (Tray i c k)) (x .call)))
 doneBy x (Run (Own i c)) = did-open i (numberOf c) (keyFor (numberOf c) (keyField (operandsOf (Own i c)) (x .call))) (ivFor (numberOf c) (ivField (operandsOf (Own i c)) (x .call)))
@@ -33,12 +35,14 @@ doneBy x (Run (Park i)) = did-park i (take (x .written) (x .out))
 doneBy x (Run (Resume i)) = did-resume i (imageIn (x .call .command))
 doneBy x (Run (Close i)) = did-close i
 doneBy x (Run (Change i k p)) = did-change i p (keyField (operandsOf (Change i k p)) (x .call)) (ivField (operandsOf (Change i k p)) (x .call))
+doneBy x (Run (Load i c k)) = did-load i (numberOf c) (keyFor (numberOf c) (keyField (operandsOf (Load i c k)) (x .call)))
+doneBy x (Run (Start i)) = did-start i (ivField (operandsOf (Start i)) (x .call))
 doneBy x (Refused k) = did-nothing
 
 abbrev pub did : Made → Did
 did x = pick (eqb (x .code) 0) (doneBy x (decodeOf (x .call .command))) did-nothing
 
--- ---- a line's log: its streams since its last accepted open or resume, and the inputs and the outputs of its accepted crypts since then, joined
+-- ---- a line's log: its streams since its last accepted open, start or resume, and the inputs and the outputs of its accepted crypts since then, joined
 
 -- a stream: the line at its beginning, and the number of joined bytes before its first
 pub record Stream : Type 0 where
@@ -82,7 +86,7 @@ newStream g p s =
       outs = g .outs;
     }
 
--- line i's log after a call; an idle line's log is empty
+-- line i's log after a call; an idle line's log is empty, and so is a loaded one's: a start begins its stream
 abbrev pub noted : ℕ → Log → Did → Log
 noted i g did-nothing = g
 noted i g (did-open j c key iv) = pick (eqb j i) (begun (opened c key iv)) g
@@ -90,6 +94,8 @@ noted i g (did-crypt j input output) = pick (eqb j i) (joined g input output) g
 noted i g (did-park j image) = pick (eqb j i) (begun idle) g
 noted i g (did-resume j image) = pick (eqb j i) (begun (based (imageLine image))) g
 noted i g (did-close j) = pick (eqb j i) (begun idle) g
+noted i g (did-load j c key) = pick (eqb j i) (begun (loadedLine c key)) g
+noted i g (did-start j iv) = pick (eqb j i) (begun (startedLine (standing g) (ivFor (standing g .cipher) iv))) g
 noted i g (did-change j p key iv) = pick (eqb j i) (newStream g p (streamOf (standing g .cipher) key iv)) g
 
 abbrev pub logAfter : ℕ → Log → List Made → Log

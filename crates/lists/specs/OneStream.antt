@@ -6,9 +6,9 @@ use mathlib.Core.Path.{_≡_}
 use lib.ListN.{getD}
 use Rattle.keystream.specs.Stream.{xorFrom}
 use Rattle.ciphers.specs.Table.{cipherAt}
-use Rattle.machine.specs.Machine.{Line, MLine, plainLine, genOf, genAt, byteOf, stateOf, imageLine, imageNumber, freshMachine, freshCard}
+use Rattle.machine.specs.Machine.{Line, MLine, plainLine, genOf, genAt, byteOf, stateOf, imageLine, imageNumber, ivFor, freshMachine, freshCard}
 use Rattle.machine.specs.Calls.{Made, machineRun, callsOf, cardAfter, lineOn}
-use Rattle.lists.specs.Logs.{did, did-open, did-park, did-resume, Log, logOf, standing, keyByte}
+use Rattle.lists.specs.Logs.{did, did-open, did-load, did-start, did-park, did-resume, Log, logOf, standing, keyByte}
 
 -- A line, as it is seen, and its log: the outputs joined are the inputs joined, each byte XORed with the keystream byte of the newest stream that has begun there; the line's position counts
 -- from the beginning of that stream, and its state is the one from which that position's byte is read.
@@ -32,6 +32,11 @@ pub record On (i : ℕ) (x : Made) : Type 0 where
   pub accepted : x .code ≡ 0
   pub line-is : getD (x .call .command) 1 0 ≡ i
 
+-- no call of these is an accepted one on line i
+abbrev pub AllOff : ℕ → List Made → Type 0
+AllOff i [] = Unit {0}
+AllOff i (y ∷ ys) = (On i y → ⊥) × AllOff i ys
+
 -- Line i after a call is as it was before, on the card and in its log.
 pub record Kept (i : ℕ) (before : List Made) (x : Made) : Type 0 where
   pub line-is : lineOn (x .card) i ≡ lineOn (cardAfter freshCard before) i
@@ -51,6 +56,9 @@ pub record OneStream (xs : List Made) : Type 0 where
   -- an open begins at position 0, in S(0) of its cipher, key and IV
   pub from-key : {before : List Made} {x : Made} → Stands before x xs → (i c : ℕ) (key iv : List ℕ) → did x ≡ did-open i c key iv →
       lineOn (x .card) i ≡ plainLine 1 c 0 (cipherAt c .init key iv)
+  -- a start begins at position 0, in S(0) of the cipher and the key that were loaded and of its IV, whatever calls on other lines stand between load and start
+  pub from-load : {before sofar : List Made} {p x : Made} → Stands sofar x xs → (t : Stands before p sofar) → (i c : ℕ) (key iv : List ℕ) → did p ≡ did-load i c key → did x ≡ did-start i iv →
+      AllOff i (t .after) → lineOn (x .card) i ≡ plainLine 1 c 0 (cipherAt c .init key (ivFor c iv))
   -- a resume begins at the cipher, the position and the state in its image, whatever image it is
   pub from-image : {before : List Made} {x : Made} → Stands before x xs → (j : ℕ) (image : List ℕ) → did x ≡ did-resume j image →
       lineOn (x .card) j ≡ imageLine image

@@ -8,7 +8,7 @@ use lib.Dec.{lit≤}
 use native.Mathlib.Omega.{arith}
 use Rattle.words.specs.Tests.{pick}
 use Rattle.command.specs.declared.Command.{Command}
-use Rattle.command.specs.declared.Command.the-variants.{Tray, Own, Crypt, Park, Resume, Close, Change}
+use Rattle.command.specs.declared.Command.the-variants.{Tray, Own, Crypt, Park, Resume, Close, Change, Load, Start}
 use Rattle.command.specs.declared.Decoded.{Decoded}
 use Rattle.command.specs.declared.Decoded.the-variants.{Run, Refused}
 use Rattle.command.specs.Decode.{decodeOf}
@@ -36,6 +36,8 @@ module _ (m : Machine) (a : Call) where
   effect-small (Resume i) = lit≤ tt
   effect-small (Close i) = lit≤ tt
   effect-small (Change i k p) = lit≤ tt
+  effect-small (Load i c k) = lit≤ tt
+  effect-small (Start i) = lit≤ tt
 
   decoded-small : (d : Decoded) → ReadIn (a .command) d → Small (ofDecoded d (public m) a)
   decoded-small (Run c) h = decided-by Small below c (public m) a (λ _. effect-small c)

@@ -8,11 +8,11 @@ use native.Mathlib.Omega.{arith}
 use lib.ListN.{length, getD, replicate, length-append}
 use lib.Seq.{getD-append-add}
 use lib.Pow.{mod-pow-add}
-use Rattle.ciphers.specs.States.{stateWords}
+use Rattle.ciphers.specs.States.{stateWords, spelt}
 use Rattle.words.specs.Lists.{All, more as more-words, Word, tab}
 use Rattle.words.specs.Word.{word}
 use Rattle.words.specs.Strings.{wordAt, bytesOf}
-use Rattle.machine.specs.Fields.{fieldBytes, numberAt, inFields, fieldsAt, spelt}
+use Rattle.machine.specs.Fields.{fieldBytes, numberAt, inFields, fieldsAt}
 use Rattle.machine.specs.Machine.{zeros, Line, imageWidths, imageOf, fieldsLine, imageLine, imageNumber}
 
 -- ---- any widths

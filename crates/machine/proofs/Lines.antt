@@ -23,8 +23,10 @@ use Rattle.ciphers.specs.Table.{cipherAt, isCipher, allZero, mugi}
 use Rattle.ciphers.specs.Fit.{Fit}
 use Rattle.words.proofs.Tests.{both-left, both-right, both-true}
 use Rattle.ciphers.proofs.Sound.{sound}
+use Rattle.ciphers.specs.Kept.{startOf}
 use Rattle.ciphers.proofs.States.{all-take}
-use Rattle.machine.specs.Machine.{Line, MLine, plain, plainLine, zeros, idle, idleLine, genOf, genAt, unitAt, stateOf, byteOf, shown, based, along, renewed, moved, xored, enciphered, changed, opened, imageLine, imageIn, imageLength, limit, keyFor, ivFor, streamOf, stateOk, imageOk, changeOk, openOk, idleOk, lineOk, allOk}
+use Rattle.ciphers.proofs.Kept.{Keeps, load-keeps, start-fit}
+use Rattle.machine.specs.Machine.{Line, MLine, plain, plainLine, zeros, idle, idleLine, genOf, genAt, unitAt, stateOf, byteOf, shown, based, along, renewed, moved, xored, enciphered, changed, opened, loadedLine, startedLine, imageLine, imageIn, imageLength, limit, keyFor, ivFor, streamOf, stateOk, imageOk, changeOk, openOk, idleOk, loadedOk, lineOk, allOk}
 use Rattle.machine.proofs.Fields.{image-state}
 use Rattle.machine.proofs.Moves.{moved-past, moved-short, moved-pos}
 
@@ -38,6 +40,7 @@ pub data Waits (l : MLine) : Type 0 where
 
 pub data Good : MLine → Type 0 where
   good-idle : Good idle
+  good-loaded : {c : ℕ} {w : List ℕ} → isCipher c ≡ true → Keeps c w → Good (plain 2 c w 0 0)
   good-open : {l : MLine} → l .mode ≡ 1 → isCipher (l .cipher) ≡ true → l .pos ≤ limit → l .from ≤ unitAt l → Fit (cipherAt (l .cipher)) (l .base) → Waits l → Good l
 
 -- ---- what is seen of a line
@@ -80,7 +83,7 @@ state-fit l i h = iter-keeps (Fit (cipherAt (l .cipher))) (genAt l .next) (sound
 
 pub open-is : (l : Line) → l .mode ≡ 1 → lineOk l ≡ openOk l
 unfolding lineOk
-open-is l e = ap (λ (x : ℕ). pick (eqb x 0) (idleOk l) (both (eqb x 1) (openOk l))) e
+open-is l e = ap (λ (x : ℕ). pick (eqb x 0) (idleOk l) (pick (eqb x 1) (openOk l) (both (eqb x 2) (loadedOk l)))) e
 
 -- what a state that passes says
 module _ (c n : ℕ) (w : List ℕ) (h : stateOk c n w ≡ true) where
@@ -123,8 +126,9 @@ change-ok l c (one-waits a b f) =
     ∙ both-true (lt-ltb (l .pos) (l .due) a) (state-ok (l .cipher) (l .due) (l .waiting) c b f)
 
 pub good-ok : (l : MLine) → Good l → lineOk (shown l) ≡ true
-unfolding lineOk idleOk openOk shown
+unfolding lineOk idleOk openOk loadedOk shown
 good-ok l good-idle = ap lineOk shown-idle
+good-ok _ (good-loaded {c} {w} h k) = ap lineOk (start-shown 2 c w) ∙ both-true h (k .kept)
 good-ok l (good-open m c p b f w) =
     open-is (shown l) m
     ∙ both-true (state-ok (l .cipher) (l .pos) (stateOf l (unitAt l)) c p (state-fit l (unitAt l) f)) (change-ok l c w)
@@ -143,6 +147,23 @@ all-ok (suc k) ls h = both-true (all-ok k ls h) (ap lineOk (at ls k) ∙ good-ok
 pub opened-good : (c : ℕ) (key iv : List ℕ) → isCipher c ≡ true → All Byte key → All Byte iv → Good (opened c key iv)
 unfolding opened unitAt
 opened-good c key iv h hk hv = good-open {l = opened c key iv} refl h (omega arith) (omega arith) (sound c .init-fit key iv hk hv) (none-waits refl refl)
+
+pub loaded-good : (c : ℕ) (key : List ℕ) → isCipher c ≡ true → All Byte key → length key ≡ cipherAt c .key → allZero key ≡ false → Good (loadedLine c key)
+unfolding loadedLine
+loaded-good c key h b e z = good-loaded h (load-keeps c key b e z)
+
+-- a loaded line is the one that starts anew from what is seen of it, so it is started alike
+pub started-good : (l : MLine) (iv : List ℕ) → Good l → l .mode ≡ 2 → All Byte iv → Good (startedLine l iv)
+unfolding startedLine unitAt
+started-good l iv good-idle e h = absurd (let z : _≡_ {A = ℕ} 0 2 = e in omega (arith, z))
+started-good l iv (good-open m c p b f w) e h = absurd (let z : _≡_ {A = ℕ} 1 2 = sym m ∙ e in omega (arith, z))
+started-good _ iv (good-loaded {c} {w} g k) e h = good-open {l = startedLine (plain 2 c w 0 0) iv} refl g (omega arith) (omega arith) (start-fit c w iv k h) (none-waits refl refl)
+
+pub started-same : (l : MLine) (iv : List ℕ) → Good l → l .mode ≡ 2 → shown (startedLine (based (shown l)) iv) ≡ shown (startedLine l iv)
+unfolding startedLine based
+started-same l iv good-idle e = absurd (let z : _≡_ {A = ℕ} 0 2 = e in omega (arith, z))
+started-same l iv (good-open m c p b f w) e = absurd (let z : _≡_ {A = ℕ} 1 2 = sym m ∙ e in omega (arith, z))
+started-same _ iv (good-loaded {c} {w} g k) e = ap (λ (x : Line). shown (plain 1 (x .cipher) (startOf (x .cipher) (x .words) iv) 0 0)) (start-shown 2 c w)
 
 -- the words of an image of bytes
 image-words : (img : List ℕ) → All Byte img → All Word (imageLine img .words)
@@ -250,11 +271,13 @@ module _ (l : MLine) (k : ℕ) (m : l .mode ≡ 1) (c : isCipher (l .cipher) ≡
 
 pub moved-good : (l : MLine) (k : ℕ) → Good l → l .mode ≡ 1 → positionOn (l .pos) (l .due) k ≤ limit → Good (moved l k)
 moved-good l k good-idle e h = absurd (let z : _≡_ {A = ℕ} 0 1 = e in omega arith)
+moved-good l k (good-loaded g w) e h = absurd (let z : _≡_ {A = ℕ} 2 1 = e in omega (arith, z))
 moved-good l k (good-open m c p b f w) e h = moved-open l k m c b f (subst (λ (x : ℕ). x ≤ limit) (sym (moved-pos l k)) h) w
 
 pub changed-good : (l : MLine) (p : ℕ) (s : List ℕ) → Good l → l .mode ≡ 1 → l .pos ≤ p → p ≤ limit → Fit (cipherAt (l .cipher)) s → Good (changed l p s)
 unfolding changed renewed unitAt
 changed-good l p s good-idle e a h fit = absurd (let z : _≡_ {A = ℕ} 0 1 = e in omega arith)
+changed-good l p s (good-loaded g w) e a h fit = absurd (let z : _≡_ {A = ℕ} 2 1 = e in omega (arith, z))
 changed-good l p s (good-open m c q b f w) e a h fit = go (eqb p (l .pos)) refl
   where
     there : MLine
@@ -272,10 +295,12 @@ stream-fit c key iv hk hv = sound c .init-fit (keyFor c key) (ivFor c iv) (all-t
 pub good-behind : (l : MLine) → Good l → l .from ≤ unitAt l
 unfolding unitAt
 good-behind l good-idle = omega arith
+good-behind l (good-loaded g w) = omega arith
 good-behind l (good-open m c p b f w) = b
 
 -- and no change waits above 2^36
 pub due-low : (l : MLine) → Good l → l .pos < l .due → l .due ≤ limit
 due-low l good-idle q = absurd (let z : 0 < 0 = q in omega arith)
+due-low l (good-loaded g w) q = absurd (let z : 0 < 0 = q in omega arith)
 due-low l (good-open m c p b f (none-waits d _)) q = absurd (omega (arith, q, d))
 due-low l (good-open m c p b f (one-waits _ u _)) q = u

@@ -4,30 +4,35 @@
 use mathlib.Core.Path.{_≡_, refl, ap, ap₂, sym, _∙_, subst}
 use mathlib.Core.Bool.{Bool, true, false, not}
 use mathlib.Core.List.{List, [], _∷_, map}
-use Prim.Native.Nat.{ℕ, zero, suc, _*_, _≤_}
+use Prim.Native.Nat.{ℕ, zero, suc, _+_, _*_, _≤_}
 use lib.Dec.{ltb}
-use lib.ListN.{length, getD, take, set, replicate}
+use lib.ListN.{length, getD, take, drop, set, replicate, length-take, length-drop}
+use lib.Seq.{length-take-le}
+use native.Mathlib.Omega.{arith}
 use borrow.Author.Tests.{ltb-false, eqb-true, not-false}
 use Rattle.words.specs.Tests.{pick}
+use Rattle.words.specs.Lists.{All, Byte}
+use Rattle.card_sizes.specs.Sizes.{keyLength}
 use Rattle.words.proofs.Ranges.{all-drop}
 use Rattle.ciphers.specs.Table.{isCipher, cipherAt, mugi}
 use Rattle.ciphers.specs.Fit.{Fit}
 use Rattle.ciphers.proofs.States.{all-take}
+use Rattle.ciphers.proofs.Rows.{key-fits}
 use Rattle.words.proofs.Tests.{both-true}
 use Rattle.command.specs.Rows.{either}
 use Rattle.command.proofs.Rows.{either-left, either-right}
 use Rattle.command.specs.declared.Cipher.{Cipher}
 use Rattle.command.specs.declared.Cipher.the-variants.{Zuc, Rabbit, Snow128, Snow256, Kcipher2, Mugi}
 use Rattle.command.specs.declared.Command.{Command}
-use Rattle.command.specs.declared.Command.the-variants.{Tray, Own, Crypt, Park, Resume, Close, Change}
+use Rattle.command.specs.declared.Command.the-variants.{Tray, Own, Crypt, Park, Resume, Close, Change, Load, Start}
 use Rattle.command.specs.declared.Decoded.{Decoded}
 use Rattle.command.specs.declared.Decoded.the-variants.{Run, Refused}
 use Rattle.command.specs.Decode.{decodeOf, numberOf, operandsOf}
 use Rattle.card_moves.specs.Moves.{positionOn}
-use Rattle.machine.specs.Machine.{Line, MLine, Machine, idle, shown, based, moved, enciphered, changed, imageOf, lineAt, seen, back, lineCount, View, noView, viewOf, public, viewAt, isOpen, waits, limit, keyField, ivField, streamOf, Call, Effect, refuse, put, crypt, park, resume, change, effectOf, ofDecoded, decide, answer, perform, step, shows, cardStep, freshMachine, freshCard}
+use Rattle.machine.specs.Machine.{Line, MLine, Machine, idle, shown, based, moved, enciphered, changed, startedLine, imageOf, lineAt, seen, back, lineCount, View, noView, viewOf, public, viewAt, isOpen, isLoaded, waits, limit, keyField, ivField, keyFor, blankKey, streamOf, Call, Effect, refuse, put, crypt, park, resume, change, start, effectOf, ofDecoded, decide, answer, perform, step, shows, cardStep, freshMachine, freshCard}
 use Rattle.machine.specs.Parks.{freshParks, numberNow, parked, taken, parksOk}
 use Rattle.machine.specs.Calls.{CallBytes}
-use Rattle.machine.proofs.Lines.{Good, good-idle, shown-idle, shown-based, all-ok, opened-good, resumed-good, stream-fit, moved-same, crypted-same, changed-same, moved-good, changed-good, good-behind}
+use Rattle.machine.proofs.Lines.{Good, good-idle, shown-idle, shown-based, all-ok, opened-good, loaded-good, started-good, started-same, resumed-good, stream-fit, moved-same, crypted-same, changed-same, moved-good, changed-good, good-behind}
 use Rattle.machine.proofs.Parks.{parked-ok, taken-ok, fresh-ok, parked-long, taken-long}
 use Rattle.machine.proofs.Rows.{Passed, passed, decided-by}
 
@@ -72,6 +77,7 @@ pub data Fair (m : Machine) (a : Call) : Effect → Type 0 where
   fair-park : {i size : ℕ} → lineAt m i .mode ≡ 1 → Fair m a (park i size)
   fair-resume : {i : ℕ} {l : MLine} {k size : ℕ} → Good l → Fair m a (resume i l k size)
   fair-change : {i p : ℕ} {s : List ℕ} {size : ℕ} → lineAt m i .mode ≡ 1 → lineAt m i .pos ≤ p → p ≤ limit → Fit (cipherAt (lineAt m i .cipher)) s → Fair m a (change i p s size)
+  fair-start : {i : ℕ} {iv : List ℕ} {size : ℕ} → lineAt m i .mode ≡ 2 → All Byte iv → Fair m a (start i iv size)
 
 pub view-get : (ls : List MLine) (i : ℕ) → getD (map viewOf ls) i noView ≡ viewOf (getD ls i idle)
 unfolding viewOf
@@ -96,6 +102,19 @@ module _ (m : Machine) (a : Call) where
   unfolding viewOf
   is-open i h = sym (of-view i (λ v. v .mode)) ∙ eqb-true _ 1 (not-false _ h)
 
+  pub is-loaded : (i : ℕ) → not (isLoaded (public m) i) ≡ false → lineAt m i .mode ≡ 2
+  unfolding viewOf
+  is-loaded i h = sym (of-view i (λ v. v .mode)) ∙ eqb-true _ 2 (not-false _ h)
+
+  -- the key that a load takes is of its cipher's length
+  pub key-length : (c k : ℕ) → ltb (length (a .tray)) (keyLength * k + keyLength) ≡ false → length (keyFor c (take keyLength (drop (keyLength * k) (a .tray)))) ≡ cipherAt c .key
+  key-length c k h =
+      let n = ltb-false (length (a .tray)) (keyLength * k + keyLength) h in
+      let f = key-fits c in
+      let d = length-drop (keyLength * k) (a .tray) in
+      let t = length-take keyLength (drop (keyLength * k) (a .tray)) in
+      length-take-le (cipherAt c .key) (take keyLength (drop (keyLength * k) (a .tray))) (omega (arith, n, f, d, t))
+
   pub none-due : (i : ℕ) → waits (public m) i ≡ false → lineAt m i .due ≡ 0
   unfolding viewOf
   none-due i h = sym (of-view i (λ v. v .due)) ∙ eqb-true _ 0 (not-false _ h)
@@ -113,7 +132,7 @@ module _ (m : Machine) (a : Call) where
   not-above i p h = ltb-false limit p (either-right (ltb p (viewAt (public m) i .pos)) (ltb limit p) h)
 
   fair-effect : CallBytes a → (c : Command) → Passed c (public m) a → Fair m a (effectOf c (public m) a)
-  unfolding viewOf
+  unfolding viewOf blankKey
   fair-effect b (Tray i c k) p =
       fair-put
       (opened-good (numberOf c) _ _ (known c)
@@ -133,6 +152,11 @@ module _ (m : Machine) (a : Call) where
       fair-change (is-open i (passed 6 p)) (not-below i q (passed 18 p)) (not-above i q (passed 18 p))
       (subst (λ (c : ℕ). Fit (cipherAt (lineAt m i .cipher)) (streamOf c (keyField o a) (ivField o a))) (sym (of-view i (λ v. v .cipher)))
       (stream-fit (lineAt m i .cipher) (keyField o a) (ivField o a) (all-take 32 (all-drop (32 * k) (b .tray))) (all-take 16 (all-drop 3 (b .command)))))
+  fair-effect b (Load i c k) p =
+      fair-put
+      (loaded-good (numberOf c) _ (known c) (all-take (cipherAt (numberOf c) .key) (all-take 32 (all-drop (32 * k) (b .tray)))) (key-length (numberOf c) k (passed 10 p)) (passed 16 p))
+  fair-effect b (Start i) p =
+      fair-start (is-loaded i (passed 19 p)) (all-take (cipherAt (viewAt (public m) i .cipher) .iv) (all-take 16 (all-drop 2 (b .command))))
 
   fair : CallBytes a → (d : Decoded) → Fair m a (ofDecoded d (public m) a)
   fair b (Refused k) = fair-refuse
@@ -195,6 +219,11 @@ module _ (m : Machine) (good : GoodCard m) (a : Call) (b : CallBytes a) where
       let h = good-behind l (good-get (good .lines) i) in
       let e : shown (changed (lineAt (back (seen m)) i) p s) ≡ shown (changed l p s) = ap (λ (x : MLine). shown (changed x p s)) (get-same (m .lines) i) ∙ changed-same l h p s in
       λ j. record { outcome = answer 0 size 0 []; card = record { lines = set-same i (changed (lineAt (back (seen m)) i) p s) (changed l p s) e j; parks = m .parks } }
+  perform-same (start i iv size) (fair-start up h) =
+      let l = lineAt m i in
+      let e : shown (startedLine (lineAt (back (seen m)) i) iv) ≡ shown (startedLine l iv) =
+      ap (λ (x : MLine). shown (startedLine x iv)) (get-same (m .lines) i) ∙ started-same l iv (good-get (good .lines) i) up in
+      λ j. record { outcome = answer 0 size 0 []; card = record { lines = set-same i (startedLine (lineAt (back (seen m)) i) iv) (startedLine l iv) e j; parks = m .parks } }
 
   perform-good : (e : Effect) → Fair m a e → GoodCard (perform m (a .text) e .machine)
   perform-good (refuse k) fair-refuse = good
@@ -204,6 +233,8 @@ module _ (m : Machine) (good : GoodCard m) (a : Call) (b : CallBytes a) where
   perform-good (resume i l k size) (fair-resume f) = record { lines = good-set (good .lines) i f; parks = taken-ok (m .parks) k (good .parks); long = taken-long (m .parks) k ∙ good .long }
   perform-good (change i p s size) (fair-change up le lim fit) =
       record { lines = good-set (good .lines) i (changed-good (lineAt m i) p s (good-get (good .lines) i) up le lim fit); parks = good .parks; long = good .long }
+  perform-good (start i iv size) (fair-start up h) =
+      record { lines = good-set (good .lines) i (started-good (lineAt m i) iv (good-get (good .lines) i) up h); parks = good .parks; long = good .long }
 
   -- every line stays good, and the parks do
   pub step-good : GoodCard (step m a .machine)

@@ -3,7 +3,6 @@
 use mathlib.Core.List.{List, [], _∷_, _++_}
 use Prim.Native.Nat.{ℕ, zero, suc, _+_, _*_, _/_, _%_, _^_}
 use lib.ListN.{getD, drop}
-use Rattle.words.specs.Strings.{bytesOf}
 
 -- a number in a field of w bytes
 abbrev pub fieldBytes : ℕ → ℕ → List ℕ
@@ -24,8 +23,3 @@ inFields (w ∷ ws) xs = fieldBytes w (getD xs 0 0) ++ inFields ws (drop 1 xs)
 abbrev pub fieldsAt : List ℕ → List ℕ → ℕ → List ℕ
 fieldsAt [] s i = []
 fieldsAt (w ∷ ws) s i = numberAt w s i ∷ fieldsAt ws s (i + w)
-
--- words one after the other, each in four bytes
-abbrev pub spelt : List ℕ → List ℕ
-spelt [] = []
-spelt (w ∷ ws) = bytesOf w ++ spelt ws

@@ -1,4 +1,4 @@
--- The plain machine (document 01, "The card"): eight lines, each idle or with a cipher, a base state B, a base unit m, a position n and a change of stream that may wait, and its step for each
+-- The plain machine (document 01, "The card"): eight lines, each idle, loaded with a key, or open with a cipher, a base state B, a base unit m, a position n and a change of stream that may wait, and its step for each
 -- command. A step is `perform (decide ..)`: `decide` goes down the refusals in their order, by what is public of the lines, the command, key and image bytes that a check names, and the lengths of data and
 -- out; `perform` does what is left.
 -- Assumes nothing.
@@ -14,20 +14,21 @@ use Rattle.card_moves.specs.Moves.{comesDue, positionOn}
 use Rattle.keystream.specs.Stream.{Gen, stateAt, byteAt, xorFrom}
 use Rattle.ciphers.specs.States.{stateWords}
 use Rattle.ciphers.specs.Table.{cipherAt, isCipher, allZero}
+use Rattle.ciphers.specs.Kept.{keptOf, startOf, keepsOk}
 use Rattle.command.specs.declared.Command.{Command}
-use Rattle.command.specs.declared.Command.the-variants.{Tray, Own, Crypt, Park, Resume, Close, Change}
+use Rattle.command.specs.declared.Command.the-variants.{Tray, Own, Crypt, Park, Resume, Close, Change, Load, Start}
 use Rattle.command.specs.declared.Decoded.{Decoded}
 use Rattle.command.specs.declared.Decoded.the-variants.{Run, Refused}
 pub use Rattle.command.specs.Rows.{lastNumber, trayOk}
 use Rattle.command.specs.Rows.{Row, _when_, unless, either, among}
-use Rattle.command.specs.Decode.{decodeOf, Operands, operandsOf, sizeOf}
+use Rattle.command.specs.Decode.{decodeOf, numberOf, Operands, operandsOf, sizeOf}
 use Rattle.machine.specs.Fields.{inFields, fieldsAt}
 use Rattle.machine.specs.Parks.{Parks, freshParks, noMore, numberNow, parked, holds, taken, parksOk}
 
 -- ---- lines
 
--- What is seen of a line: its mode (0 idle, 1 open), and if it is open its cipher's number, its position n, and S(n div u), the state that byte n is read from, as words; and of a change that
--- waits its position and its stream's S(0). Zeros where there is none.
+-- What is seen of a line: its mode (0 idle, 1 open, 2 loaded), and if it is open its cipher's number, its position n, and S(n div u), the state that byte n is read from, as words; and of a change
+-- that waits its position and its stream's S(0); if it is loaded its cipher's number and, in the state's place, what it keeps of its key. Zeros where there is none.
 pub record Line : Type 0 where
   pub mode : ℕ
   pub cipher : ℕ
@@ -36,7 +37,8 @@ pub record Line : Type 0 where
   pub due : ℕ
   pub waiting : List ℕ
 
--- a mode (0 idle, 1 open), a cipher, document 01's base state B, base unit m and position n; and the position of a change that waits, 0 for none, with its stream's S(0)
+-- a mode (0 idle, 1 open, 2 loaded), a cipher, document 01's base state B (of a loaded line what it keeps), base unit m and position n; and the position of a change that waits, 0 for none, with its
+-- stream's S(0)
 pub record MLine : Type 0 where
   pub mode : ℕ
   pub cipher : ℕ
@@ -91,6 +93,14 @@ based l = record { mode = l .mode; cipher = l .cipher; base = l .words; from = l
 -- a line that is opened: B = S(0), m = 0, n = 0
 unfoldable pub opened : ℕ → List ℕ → List ℕ → MLine
 opened c key iv = plain 1 c (cipherAt c .init key iv) 0 0
+
+-- a line that is loaded: in B's place what it keeps of a key
+unfoldable pub loadedLine : ℕ → List ℕ → MLine
+loadedLine c key = plain 2 c (keptOf c key) 0 0
+
+-- a loaded line that is started: B = S(0) of what it keeps and an IV, m = 0, n = 0; the key is not kept
+unfoldable pub startedLine : MLine → List ℕ → MLine
+startedLine l iv = plain 1 (l .cipher) (startOf (l .cipher) (l .base) iv) 0 0
 
 -- ---- a line that moves on, past a change that waits
 
@@ -167,8 +177,12 @@ openOk l = both (imageOk l) (changeOk (l .cipher) (l .n) (l .due) (l .waiting))
 unfoldable pub idleOk : Line → Bool
 idleOk l = both (eqb (l .cipher) 0) (both (eqb (l .n) 0) (both (allZero (l .words)) (both (eqb (l .due) 0) (allZero (l .waiting)))))
 
+-- a loaded line: its cipher and what it keeps, and the rest as on a fresh card
+unfoldable pub loadedOk : Line → Bool
+loadedOk l = both (isCipher (l .cipher)) (both (eqb (l .n) 0) (both (both (eqb (l .due) 0) (allZero (l .waiting))) (keepsOk (l .cipher) (l .words))))
+
 unfoldable pub lineOk : Line → Bool
-lineOk l = pick (eqb (l .mode) 0) (idleOk l) (both (eqb (l .mode) 1) (openOk l))
+lineOk l = pick (eqb (l .mode) 0) (idleOk l) (pick (eqb (l .mode) 1) (openOk l) (both (eqb (l .mode) 2) (loadedOk l)))
 
 -- ---- a call, and what it gives
 
@@ -260,17 +274,23 @@ isIdle v i = eqb (viewAt v i .mode) 0
 abbrev pub isOpen : Public → ℕ → Bool
 isOpen v i = eqb (viewAt v i .mode) 1
 
+abbrev pub isLoaded : Public → ℕ → Bool
+isLoaded v i = eqb (viewAt v i .mode) 2
+
 abbrev pub waits : Public → ℕ → Bool
 waits v i = not (eqb (viewAt v i .due) 0)
 
 -- ---- a command's key and IV
 
--- 01 or 07; 01, 02 or 07; 03
+-- 01, 07 or 08; 01, 02, 07 or 08; 01, 02, 07 or 09; 03
 abbrev pub fromTray : Operands → Bool
-fromTray o = among (1 ∷ 7 ∷ []) (o .kind)
+fromTray o = among (1 ∷ 7 ∷ 8 ∷ []) (o .kind)
 
 abbrev pub takesKey : Operands → Bool
-takesKey o = among (1 ∷ 2 ∷ 7 ∷ []) (o .kind)
+takesKey o = among (1 ∷ 2 ∷ 7 ∷ 8 ∷ []) (o .kind)
+
+abbrev pub takesIv : Operands → Bool
+takesIv o = among (1 ∷ 2 ∷ 7 ∷ 9 ∷ []) (o .kind)
 
 abbrev pub crypts : Operands → Bool
 crypts o = eqb (o .kind) 3
@@ -282,7 +302,7 @@ keyField o a =
     (pick (eqb (o .kind) 2) (take keyLength (drop ownKey (a .command))) [])
 
 abbrev pub ivField : Operands → Call → List ℕ
-ivField o a = pick (takesKey o) (take ivLength (drop (o .ivAt) (a .command))) []
+ivField o a = pick (takesIv o) (take ivLength (drop (o .ivAt) (a .command))) []
 
 -- the bytes of a key and of an IV that cipher c takes
 abbrev pub keyFor : ℕ → List ℕ → List ℕ
@@ -295,9 +315,9 @@ ivFor c iv = take (cipherAt c .iv) iv
 abbrev pub streamOf : ℕ → List ℕ → List ℕ → List ℕ
 streamOf c key iv = cipherAt c .init (keyFor c key) (ivFor c iv)
 
--- the cipher of a command's key and IV: the one that it names, and of 07 its line's
+-- the cipher of a command's key and IV: the one that it names, and of 07 and 09 its line's
 abbrev pub cipherFor : Operands → Public → ℕ
-cipherFor o v = pick (eqb (o .kind) 7) (viewAt v (o .line) .cipher) (o .cipher)
+cipherFor o v = pick (among (7 ∷ 9 ∷ []) (o .kind)) (viewAt v (o .line) .cipher) (o .cipher)
 
 -- a byte beyond the cipher's length is not 0
 unfoldable pub spareUsed : ℕ → List ℕ → List ℕ → Bool
@@ -310,7 +330,7 @@ blankKey c key = allZero (keyFor c key)
 -- ---- what is to be done
 
 -- a refusal; a line put in the place of line i; count bytes crypted on line i; line i parked; a line put in the place of line i that takes up park k; line i that is to change at position p to
--- the stream of S(0) s; each with the bytes of the command
+-- the stream of S(0) s; line i started with an IV; each with the bytes of the command
 pub data Effect : Type 0 where
   refuse : ℕ → Effect
   put : (i : ℕ) (l : MLine) (size : ℕ) → Effect
@@ -318,6 +338,7 @@ pub data Effect : Type 0 where
   park : (i size : ℕ) → Effect
   resume : (i : ℕ) (l : MLine) (k size : ℕ) → Effect
   change : (i p : ℕ) (s : List ℕ) (size : ℕ) → Effect
+  start : (i : ℕ) (iv : List ℕ) (size : ℕ) → Effect
 
 unfoldable pub refuseIf : Bool → ℕ → Effect → Effect
 refuseIf true k e = refuse k
@@ -335,6 +356,8 @@ effectOf (Park i) v a = park i (sizeOf (Park i))
 effectOf (Resume i) v a = resume i (based (imageLine (imageIn (a .command)))) (imageNumber (imageIn (a .command))) (sizeOf (Resume i))
 effectOf (Close i) v a = put i idle (sizeOf (Close i))
 effectOf (Change i k p) v a = change i p (streamOf (cipherFor (operandsOf (Change i k p)) v) (keyField (operandsOf (Change i k p)) a) (ivField (operandsOf (Change i k p)) a)) (sizeOf (Change i k p))
+effectOf (Load i c k) v a = put i (loadedLine (numberOf c) (keyFor (numberOf c) (keyField (operandsOf (Load i c k)) a))) (sizeOf (Load i c k))
+effectOf (Start i) v a = start i (ivFor (cipherFor (operandsOf (Start i)) v) (ivField (operandsOf (Start i)) a)) (sizeOf (Start i))
 
 -- All that a decision reads of a call: three lengths, whether a byte of the key or the IV beyond the cipher's length is not 0, whether the key is all zero within it, and the image that
 -- a resume brings; no byte of data, and nothing else of a key or an IV within the cipher's lengths.
@@ -360,10 +383,12 @@ factsOf o v a =
 -- The refusals of a command that is read, in the documents' order; 1, 2, 1, 3 and 4 come before them, in `unread` and with the cipher that is read.
 abbrev pub refusals : Operands → Public → Facts → List Row
 refusals o v f =
-    -- open or resume on an open line
-    (5 when both (among (1 ∷ 2 ∷ 5 ∷ []) (o .kind)) (not (isIdle v (o .line))))
-    -- crypt, park, close or change on an idle one
-    ∷ (6 when both (among (3 ∷ 4 ∷ 6 ∷ 7 ∷ []) (o .kind)) (not (isOpen v (o .line))))
+    -- open, load or resume on an open or a loaded line
+    (5 when both (among (1 ∷ 2 ∷ 5 ∷ 8 ∷ []) (o .kind)) (not (isIdle v (o .line))))
+    -- crypt, park or change on an idle or a loaded one, close on an idle one
+    ∷ (6 when both (among (3 ∷ 4 ∷ 6 ∷ 7 ∷ []) (o .kind)) (pick (eqb (o .kind) 6) (isIdle v (o .line)) (not (isOpen v (o .line)))))
+    -- start on a line that is not loaded
+    ∷ (19 when both (eqb (o .kind) 9) (not (isLoaded v (o .line))))
     -- park or change where a change waits
     ∷ (17 when both (among (4 ∷ 7 ∷ []) (o .kind)) (waits v (o .line)))
     -- a change below the line's position or above 2^36
@@ -375,7 +400,7 @@ refusals o v f =
     -- key number not in it
     ∷ (10 when both (fromTray o) (ltb (f .trayCount) (keyLength * o .keyNumber + keyLength)))
     -- a key or IV byte beyond the cipher's length is not 0
-    ∷ (7 when both (takesKey o) (f .spare))
+    ∷ (7 when both (among (1 ∷ 2 ∷ 7 ∷ 8 ∷ 9 ∷ []) (o .kind)) (f .spare))
     -- key all zero
     ∷ (16 when both (takesKey o) (f .blank))
     -- image: cipher, n, padding, ZUC cell, Rabbit carry
@@ -422,6 +447,7 @@ perform m text (park i size) =
     record { machine = withParks (withLine m i idle) (parked (m .parks) i); outcome = answer 0 size 0 (imageOf (numberNow (m .parks)) (shown (lineAt m i))) }
 perform m text (resume i l k size) = record { machine = withParks (withLine m i l) (taken (m .parks) k); outcome = answer 0 size 0 [] }
 perform m text (change i p s size) = record { machine = withLine m i (changed (lineAt m i) p s); outcome = answer 0 size 0 [] }
+perform m text (start i iv size) = record { machine = withLine m i (startedLine (lineAt m i) iv); outcome = answer 0 size 0 [] }
 
 unfoldable pub step : Machine → Call → Stepped
 step m a = perform m (a .text) (decide (public m) a)

@@ -6,6 +6,7 @@ ghost use mathlib.Core.List.{[], _∷_, _++_};
 ghost use Prim.Native.Nat.{_*_, _^_, _/_, _<_, _≤_};
 ghost use lib.ListN.{length, drop};
 ghost use Rattle.keystream.specs.Stream.{TextCrypted};
+ghost use Rattle.rabbit.specs.Cipher.{master, started};
 ghost use Rattle.ciphers.specs.States.{stateWords, rabbitWords, rabbitState};
 ghost use Rattle.ciphers.specs.Table.{rabbit};
 use card_sizes::STATE;
@@ -73,6 +74,23 @@ pub fn open(key: &[u8], iv: &[u8]) -> [u32; STATE]
     ensures { λ r. ⌜ r ≡ rabbit .init (now (key .entry)) (now (iv .entry)) ⌝ }
 {
     words(rabbit_start::init(key, iv))
+}
+
+// The state after step 3 of 7.3.2 of a key, which is kept for every IV.
+pub fn keep(key: &[u8]) -> [u32; STATE]
+    requires { ⌜ length (now key) ≡ 16 ⌝ }
+    ensures { λ r. ⌜ r ≡ rabbitWords (master (now (key .entry))) ⌝ }
+{
+    words(rabbit_start::master(key))
+}
+
+// S(0) of what is kept of a key and an IV.
+pub fn start(kept: &[u32], iv: &[u8]) -> [u32; STATE]
+    requires { ⌜ (length (now kept) ≡ stateWords) × (rabbit .admits (now kept) ≡ true) ⌝ }
+    requires { ⌜ length (now iv) ≡ 8 ⌝ }
+    ensures { λ r. ⌜ r ≡ rabbitWords (started (rabbitState (now (kept .entry))) (now (iv .entry))) ⌝ }
+{
+    words(rabbit_start::start(load(kept), iv))
 }
 
 // The text goes to the start of out, XORed with the keystream from byte skip of the unit of the words' state on; w then holds the state of the unit in which

@@ -6,13 +6,13 @@ use mathlib.Core.Bool.{Bool, true, false, not}
 use mathlib.Core.List.{List, [], _∷_}
 use Prim.Native.Nat.{ℕ, suc, _+_, _-_, _*_, _^_, _<_, _≤_}
 use native.Mathlib.Omega.{arith}
-use lib.Dec.{eqb, leb, ltb}
+use lib.Dec.{eqb, leb}
 use lib.ListN.{length, getD, take, drop, length-take, length-drop}
 use lib.Seq.{ext-getD, getD-take, getD-drop}
 use borrow.Author.Tests.{eqb-true, lt-leb, le-leb, le-ltb}
 use Rattle.words.specs.Strings.{wordAt}
 use Rattle.words.specs.Tests.{both, pick}
-use Rattle.card_sizes.specs.Sizes.{keyLength, ivLength, trayIv, ownKey, ownIv, changeIv, changeAt}
+use Rattle.card_sizes.specs.Sizes.{keyLength, ivLength, trayIv, ownKey, ownIv, changeIv, changeAt, startIv}
 use Rattle.ciphers.specs.Table.{cipherAt, allZero}
 use Rattle.ciphers.proofs.Numbers.{Reads, reads, reads-none, byte-reads}
 use Rattle.ciphers.proofs.Rows.{key-fits, iv-fits}
@@ -20,13 +20,13 @@ use Rattle.command.specs.declared.Cipher.{Cipher}
 use Rattle.command.specs.declared.CipherRead.{CipherRead}
 use Rattle.command.specs.declared.CipherRead.the-variants.{Is, Unknown}
 use Rattle.command.specs.declared.Command.{Command}
-use Rattle.command.specs.declared.Command.the-variants.{Tray, Own, Crypt, Park, Resume, Close, Change}
+use Rattle.command.specs.declared.Command.the-variants.{Tray, Own, Crypt, Park, Resume, Close, Change, Load, Start}
 use Rattle.command.specs.declared.Decoded.{Decoded}
 use Rattle.command.specs.declared.Decoded.the-variants.{Run, Refused}
 use Rattle.command.specs.Rows.{either}
 use Rattle.command.specs.Decode.{numberOf, readOf, withCipher, openOf, cryptOf, changeOf, Form, forms, readIn, refusedIf, unread, commandOf, decodeOf, Operands, operandsOf}
 use Rattle.command.proofs.Rows.{by-rows}
-use Rattle.machine.specs.Machine.{Call, Machine, Public, public, fromTray, keyField, ivField, cipherFor, spareUsed, blankKey, Facts, factsOf, step}
+use Rattle.machine.specs.Machine.{Call, Machine, public, fromTray, keyField, ivField, cipherFor, spareUsed, factsOf, step}
 use Rattle.trace.specs.Trace.{operandsFor, operandsAt, within, usesByte, AlikeFrom, Shares, AllShare, none, call}
 
 -- ---- the bytes from one place to another
@@ -99,7 +99,11 @@ module _ (s : List ℕ) where
       (λ e. spells-cipher _ (λ c n. of-kind 1 e (λ j. record { kind = 1; line = getD s 1 0; cipher = n j; keyNumber = getD s 3 0; ivAt = trayIv; count = 0; position = 0 })))
       (each-spells (λ e. spells-cipher _ (λ c n. of-kind 2 e (λ j. record { kind = 2; line = getD s 1 0; cipher = n j; keyNumber = 0; ivAt = ownIv; count = 0; position = 0 })))
       (each-spells (λ e. of-kind 3 e refl)
-      (each-spells (λ e. of-kind 4 e refl) (each-spells (λ e. of-kind 5 e refl) (each-spells (λ e. of-kind 6 e refl) (each-spells (λ e. of-kind 7 e refl) none-spells))))))
+      (each-spells (λ e. of-kind 4 e refl) (each-spells (λ e. of-kind 5 e refl)
+      (each-spells (λ e. of-kind 6 e refl)
+      (each-spells (λ e. of-kind 7 e refl)
+      (each-spells (λ e. spells-cipher _ (λ c n. of-kind 8 e (λ j. record { kind = 8; line = getD s 1 0; cipher = n j; keyNumber = getD s 3 0; ivAt = 0; count = 0; position = 0 })))
+      (each-spells (λ e. of-kind 9 e refl) none-spells))))))))
 
   spells-in : (fs : List Form) → AllSpell s fs → Spells s (readIn fs (getD s 0 0) s)
   spells-in [] none-spells = spells-number
@@ -121,10 +125,12 @@ data Kind : ℕ → Type 0 where
   kind-tray : Kind 1
   kind-own : Kind 2
   kind-change : Kind 7
-  kind-other : {k : ℕ} → eqb k 1 ≡ false → eqb k 2 ≡ false → eqb k 7 ≡ false → Kind k
+  kind-load : Kind 8
+  kind-start : Kind 9
+  kind-other : {k : ℕ} → eqb k 1 ≡ false → eqb k 2 ≡ false → eqb k 7 ≡ false → eqb k 8 ≡ false → eqb k 9 ≡ false → Kind k
 
 kind-of : (k : ℕ) → Kind k
-kind-of k = try 1 kind-tray (λ p. try 2 kind-own (λ q. try 7 kind-change (λ r. kind-other p q r)))
+kind-of k = try 1 kind-tray (λ p. try 2 kind-own (λ q. try 7 kind-change (λ r. try 8 kind-load (λ s. try 9 kind-start (λ t. kind-other p q r s t)))))
   where
     try : (j : ℕ) → Kind j → (eqb k j ≡ false → Kind k) → Kind k
     try j x f = by (eqb k j) refl
@@ -133,12 +139,14 @@ kind-of k = try 1 kind-tray (λ p. try 2 kind-own (λ q. try 7 kind-change (λ r
         by true e = subst Kind (sym (eqb-true k j e)) x
         by false e = f e
 
--- the first three bytes are none of a key or an IV
-low-free : (k : ℕ) → Kind k → (s : List ℕ) (c i : ℕ) → i < 3 → usesByte (operandsFor k s) c i ≡ false
+-- the first two bytes are none of a key or an IV
+low-free : (k : ℕ) → Kind k → (s : List ℕ) (c i : ℕ) → i < 2 → usesByte (operandsFor k s) c i ≡ false
 low-free _ kind-tray s c i h = before _ i _ (omega (arith, h))
-low-free _ kind-own s c i h = neither (before _ i _ h) (before _ i _ (omega (arith, h)))
-low-free _ kind-change s c i h = before _ i _ h
-low-free k (kind-other p q r) s c i h = rw (p, q, r)
+low-free _ kind-own s c i h = neither (before _ i _ (omega (arith, h))) (before _ i _ (omega (arith, h)))
+low-free _ kind-change s c i h = before _ i _ (omega (arith, h))
+low-free _ kind-load s c i h = refl
+low-free _ kind-start s c i h = before _ i _ h
+low-free k (kind-other p q r _ f) s c i h = rw (p, q, r, f)
 
 -- two strings that each form reads alike, where it is theirs
 data AllSame (x y : List ℕ) : List Form → Type 0 where
@@ -180,7 +188,9 @@ module _ (m : Machine) (a b : Call) {more more' : List Call} (h : AlikeFrom m (a
   key-rest _ e kind-own =
       same-field 2 e ownKey (cipherAt c .key) keyLength (λ i p q. neither (behind ownKey (cipherAt c .key) i p) (before ownIv i _ q))
   key-rest _ e kind-change = same-record 7 e refl
-  key-rest k e (kind-other p q r) = rw (p, q, r)
+  key-rest _ e kind-load = same-record 8 e refl
+  key-rest _ e kind-start = refl
+  key-rest k e (kind-other p q r s _) = rw (p, q, r, s)
 
   iv-rest : (k : ℕ) → getD x 0 0 ≡ k → Kind k → drop (cipherAt c .iv) (ivField (operandsFor k x) a) ≡ drop (cipherAt c .iv) (ivField (operandsFor k x) b)
   iv-rest _ e kind-tray = same-field 1 e trayIv (cipherAt c .iv) ivLength (λ i p _. behind trayIv (cipherAt c .iv) i p)
@@ -188,7 +198,9 @@ module _ (m : Machine) (a b : Call) {more more' : List Call} (h : AlikeFrom m (a
       let f = key-fits c in
       same-field 2 e ownIv (cipherAt c .iv) ivLength (λ i p _. neither (behind ownKey (cipherAt c .key) i (omega (arith, f, p))) (behind ownIv (cipherAt c .iv) i p))
   iv-rest _ e kind-change = same-field 7 e changeIv (cipherAt c .iv) ivLength (λ i p _. behind changeIv (cipherAt c .iv) i p)
-  iv-rest k e (kind-other p q r) = rw (p, q, r)
+  iv-rest _ e kind-load = refl
+  iv-rest _ e kind-start = same-field 9 e startIv (cipherAt c .iv) ivLength (λ i p _. behind startIv (cipherAt c .iv) i p)
+  iv-rest k e (kind-other p q r _ t) = rw (p, q, r, t)
 
   -- ---- the command that is read
 
@@ -198,9 +210,6 @@ module _ (m : Machine) (a b : Call) {more more' : List Call} (h : AlikeFrom m (a
   line-is : getD x 1 0 ≡ getD y 1 0
   line-is = let k = getD x 0 0 in same-byte k refl 1 (low-free k (kind-of k) x c 1 (omega arith))
 
-  third-is : getD x 2 0 ≡ getD y 2 0
-  third-is = let k = getD x 0 0 in same-byte k refl 2 (low-free k (kind-of k) x c 2 (omega arith))
-
   -- the position of a change stands behind its IV
   same-change : getD x 0 0 ≡ 7 → changeOf x ≡ changeOf y
   unfolding changeOf
@@ -209,16 +218,21 @@ module _ (m : Machine) (a b : Call) {more more' : List Call} (h : AlikeFrom m (a
       let free : (j : ℕ) → changeAt ≤ j → usesByte (operandsFor 7 x) c j ≡ false = λ j q. behind changeIv (cipherAt c .iv) j (omega (arith, f, q)) in
       let high = same-word 7 e changeAt (λ j q. free j q) in
       let low = same-word 7 e (changeAt + 4) (λ j q. free j (omega (arith, q))) in
-      λ j. Run (Change (line-is j) (third-is j) (high j * 2 ^ 32 + low j))
+      let key = same-byte 7 e 2 refl in
+      λ j. Run (Change (line-is j) (key j) (high j * 2 ^ 32 + low j))
 
   forms-same : AllSame x y forms
   unfolding openOf cryptOf
   forms-same =
-      each-same (λ e. let n = same-byte 1 e 3 refl in λ j. withCipher (readOf (third-is j)) (λ c. Run (Tray (line-is j) c (n j))))
-      (each-same (λ e. λ j. withCipher (readOf (third-is j)) (λ c. Run (Own (line-is j) c)))
-      (each-same (λ e. let n = same-byte 3 e 3 refl in λ j. Run (Crypt (line-is j) (third-is j * 256 + n j)))
+      each-same (λ e. let k = same-byte 1 e 2 refl in let n = same-byte 1 e 3 refl in λ j. withCipher (readOf (k j)) (λ c. Run (Tray (line-is j) c (n j))))
+      (each-same (λ e. let k = same-byte 2 e 2 refl in λ j. withCipher (readOf (k j)) (λ c. Run (Own (line-is j) c)))
+      (each-same (λ e. let h = same-byte 3 e 2 refl in let l = same-byte 3 e 3 refl in λ j. Run (Crypt (line-is j) (h j * 256 + l j)))
       (each-same (λ e. λ j. Run (Park (line-is j)))
-      (each-same (λ e. λ j. Run (Resume (line-is j))) (each-same (λ e. λ j. Run (Close (line-is j))) (each-same same-change none-same))))))
+      (each-same (λ e. λ j. Run (Resume (line-is j)))
+      (each-same (λ e. λ j. Run (Close (line-is j)))
+      (each-same same-change
+      (each-same (λ e. let k = same-byte 8 e 2 refl in let n = same-byte 8 e 3 refl in λ j. withCipher (readOf (k j)) (λ c. Run (Load (line-is j) c (n j))))
+      (each-same (λ e. λ j. Run (Start (line-is j))) none-same))))))))
 
   same-in : (fs : List Form) → AllSame x y fs → readIn fs (getD x 0 0) x ≡ readIn fs (getD x 0 0) y
   same-in [] none-same = refl

@@ -3,14 +3,14 @@
 use mathlib.Core.Path.{_≡_, refl, ap, sym, _∙_}
 use mathlib.Core.List.{List, [], _∷_, _++_, map}
 use Prim.Native.Nat.{ℕ, _-_}
-use lib.ListN.{length, getD, replicate}
+use lib.ListN.{getD, replicate}
 use Rattle.words.specs.Strings.{wordAt}
 use Rattle.keystream.specs.Stream.{xorFrom}
 use Rattle.card_sizes.specs.Sizes.{keyLength, ivLength, imageLength}
 use Rattle.card_moves.specs.Moves.{comesDue, positionOn}
 use Rattle.ciphers.specs.Table.{cipherAt, zuc, rabbit, snow128, snow256, kcipher2, mugi}
 use Rattle.command.specs.Decode.{readOf, lengthOf, openOf, cryptOf, changeOf, commandOf, decodeOf}
-use Rattle.machine.specs.Machine.{Call, shown, opened, along, renewed, moved, xored, enciphered, changed, imageOf, viewOf, spareUsed, blankKey, refuseIf, decided, decide, step, freshMachine}
+use Rattle.machine.specs.Machine.{Call, shown, opened, loadedLine, startedLine, along, renewed, moved, xored, enciphered, changed, imageOf, viewOf, spareUsed, blankKey, refuseIf, decided, decide, step, freshMachine}
 use Rattle.machine.specs.Parks.{noMore, numberNow, parked}
 use Rattle.machine.specs.Calls.{machineRun}
 use Rattle.trace.specs.Trace.{Trace, traced, AlikeLists}
@@ -33,11 +33,15 @@ talk x =
     -- a change of line 0 two bytes on, which comes due within the crypt behind it
     ∷ lent (7 ∷ 0 ∷ 1 ∷ (field x 16 ivLength ++ (0 ∷ 0 ∷ 0 ∷ 0 ∷ 0 ∷ 0 ∷ 0 ∷ 5 ∷ []))) tray []
     ∷ lent (3 ∷ 0 ∷ 0 ∷ 4 ∷ []) whole (replicate 4 x)
-    -- refused: line 0 is open, a key beyond its cipher's length, a key all zero, data too short, an idle line
+    -- a load and a start, with Rabbit
+    ∷ lent (8 ∷ 3 ∷ 2 ∷ 1 ∷ []) tray []
+    ∷ lent (9 ∷ 3 ∷ field x 8 ivLength) whole []
+    -- refused: line 0 is open, a key beyond its cipher's length, a key all zero, data too short, a start on an open line, an idle line
     ∷ lent (1 ∷ 0 ∷ 1 ∷ 1 ∷ field x 16 ivLength) tray []
     ∷ lent (1 ∷ 2 ∷ 1 ∷ 0 ∷ field x 16 ivLength) spare []
     ∷ lent (1 ∷ 2 ∷ 2 ∷ 0 ∷ field x 8 ivLength) blank []
     ∷ lent (3 ∷ 1 ∷ 0 ∷ 9 ∷ []) whole (replicate 8 x)
+    ∷ lent (9 ∷ 0 ∷ field x 16 ivLength) whole []
     ∷ lent (4 ∷ 1 ∷ []) whole (replicate 2 x)
     ∷ lent (3 ∷ 1 ∷ 0 ∷ 2 ∷ []) whole (replicate 2 x)
     ∷ lent (6 ∷ 0 ∷ []) whole []
@@ -59,7 +63,7 @@ talk x =
     lent command tray text = record { command = command; tray = tray; text = text; out = replicate imageLength x }
 
 pub talks-alike : AlikeLists (talk 1) (talk 2)
-unfolding talk field step decide decodeOf commandOf lengthOf readOf openOf cryptOf changeOf decided refuseIf spareUsed blankKey viewOf comesDue positionOn opened changed moved along renewed noMore parked cipherAt zuc rabbit snow128 snow256 kcipher2 mugi wordAt
+unfolding talk field step decide decodeOf commandOf lengthOf readOf openOf cryptOf changeOf decided refuseIf spareUsed blankKey viewOf comesDue positionOn opened loadedLine startedLine changed moved along renewed noMore parked cipherAt zuc rabbit snow128 snow256 kcipher2 mugi wordAt
 talks-alike = lists-tested (talk 1) (talk 2) freshMachine refl
 
 -- code, bytes used of command and data, bytes written, and the positions of lines 0 and 1
@@ -74,10 +78,13 @@ their-trace =
     ∷ (0 ∷ 4 ∷ 2 ∷ 2 ∷ 3 ∷ 2 ∷ [])
     ∷ (0 ∷ 27 ∷ 0 ∷ 0 ∷ 3 ∷ 2 ∷ [])
     ∷ (0 ∷ 4 ∷ 4 ∷ 4 ∷ 2 ∷ 2 ∷ [])
+    ∷ (0 ∷ 4 ∷ 0 ∷ 0 ∷ 2 ∷ 2 ∷ [])
+    ∷ (0 ∷ 18 ∷ 0 ∷ 0 ∷ 2 ∷ 2 ∷ [])
     ∷ (5 ∷ 0 ∷ 0 ∷ 0 ∷ 2 ∷ 2 ∷ [])
     ∷ (7 ∷ 0 ∷ 0 ∷ 0 ∷ 2 ∷ 2 ∷ [])
     ∷ (16 ∷ 0 ∷ 0 ∷ 0 ∷ 2 ∷ 2 ∷ [])
     ∷ (11 ∷ 0 ∷ 0 ∷ 0 ∷ 2 ∷ 2 ∷ [])
+    ∷ (19 ∷ 0 ∷ 0 ∷ 0 ∷ 2 ∷ 2 ∷ [])
     ∷ (0 ∷ 2 ∷ 0 ∷ 165 ∷ 2 ∷ 0 ∷ [])
     ∷ (6 ∷ 0 ∷ 0 ∷ 0 ∷ 2 ∷ 0 ∷ [])
     ∷ (0 ∷ 2 ∷ 0 ∷ 0 ∷ 0 ∷ 0 ∷ [])
@@ -85,7 +92,7 @@ their-trace =
 
 -- The trace of the first, by computation, and so, by the claim, the second's.
 pub first-trace : map figures (map traced (machineRun freshMachine (talk 1))) ≡ their-trace
-unfolding talk field their-trace step decide decodeOf commandOf lengthOf readOf openOf cryptOf changeOf decided refuseIf spareUsed blankKey viewOf comesDue positionOn opened changed moved along renewed noMore numberNow parked cipherAt zuc rabbit snow128 snow256 kcipher2 mugi wordAt shown enciphered xored xorFrom imageOf
+unfolding talk field their-trace step decide decodeOf commandOf lengthOf readOf openOf cryptOf changeOf decided refuseIf spareUsed blankKey viewOf comesDue positionOn opened loadedLine startedLine changed moved along renewed noMore numberNow parked cipherAt zuc rabbit snow128 snow256 kcipher2 mugi wordAt shown enciphered xored xorFrom imageOf
 first-trace = refl
 
 pub second-trace : map figures (map traced (machineRun freshMachine (talk 2))) ≡ their-trace

@@ -10,13 +10,13 @@ use lib.ListN.{length, take, set, length-take}
 use Rattle.words.specs.Tests.{pick}
 use Rattle.card_moves.specs.Moves.{comesDue}
 use Rattle.command.specs.declared.Command.{Command}
-use Rattle.command.specs.declared.Command.the-variants.{Tray, Own, Crypt, Park, Resume, Close, Change}
+use Rattle.command.specs.declared.Command.the-variants.{Tray, Own, Crypt, Park, Resume, Close, Change, Load, Start}
 use Rattle.command.specs.declared.Decoded.{Decoded}
 use Rattle.command.specs.declared.Decoded.the-variants.{Run, Refused}
 use Rattle.command.specs.Rows.{Row, unless}
 use Rattle.command.specs.Decode.{decodeOf, operandsOf}
-use Rattle.machine.specs.Machine.{MLine, Line, Machine, lineAt, withLine, withParks, idle, shown, opened, along, renewed, moved, enciphered, changed, imageOf, imageLength, Call, View, viewOf, Public, public, viewAt, Facts, factsOf, Effect, refuse, put, crypt, park, resume, change, refuseIf, refusals, effectOf, decided, ofDecoded, decide, Stepped, perform, step, shows, seen}
-use Rattle.machine.specs.Parks.{parked, numberNow}
+use Rattle.machine.specs.Machine.{MLine, Line, Machine, lineAt, withLine, idle, shown, opened, loadedLine, startedLine, along, renewed, moved, changed, imageOf, imageLength, Call, View, viewOf, Public, public, viewAt, Facts, factsOf, Effect, refuse, put, crypt, park, change, start, refuseIf, refusals, effectOf, decided, ofDecoded, decide, Stepped, perform, step, shows, seen}
+use Rattle.machine.specs.Parks.{parked}
 use Rattle.machine.specs.Calls.{madeOf, machineRun}
 use Rattle.machine.proofs.Moves.{enciphered-length}
 use Rattle.machine.proofs.Simulation.{view-get, map-set}
@@ -31,6 +31,7 @@ data SameEffect (text text' : List ℕ) : Effect → Effect → Type 0 where
   same-crypt : {i n size : ℕ} → length text ≡ length text' → SameEffect text text' (crypt i n size) (crypt i n size)
   same-park : {i size : ℕ} → SameEffect text text' (park i size) (park i size)
   same-change : {i p size : ℕ} {s s' : List ℕ} → SameEffect text text' (change i p s size) (change i p s' size)
+  same-start : {i size : ℕ} {iv iv' : List ℕ} → SameEffect text text' (start i iv size) (start i iv' size)
 
 module _ (text text' : List ℕ) where
   row : (b : Bool) (k : ℕ) {e e' : Effect} → SameEffect text text' e e' → SameEffect text text' (refuseIf b k e) (refuseIf b k e')
@@ -44,7 +45,7 @@ module _ (text text' : List ℕ) where
 
 module _ (v : Public) (a b : Call) where
   same-effect : (c : Command) → ((i : ℕ) → c ≡ Resume i → ⊥) → length (a .text) ≡ length (b .text) → SameEffect (a .text) (b .text) (effectOf c v a) (effectOf c v b)
-  unfolding opened viewOf
+  unfolding opened loadedLine viewOf
   same-effect (Tray i c k) f e = same-put refl
   same-effect (Own i c) f e = same-put refl
   same-effect (Crypt i n) f e = same-crypt e
@@ -52,6 +53,8 @@ module _ (v : Public) (a b : Call) where
   same-effect (Resume i) f e = absurd (f i refl)
   same-effect (Close i) f e = same-put refl
   same-effect (Change i k p) f e = same-change
+  same-effect (Load i c k) f e = same-put refl
+  same-effect (Start i) f e = same-start
 
   same-decided : (c : Command) → ((i : ℕ) → c ≡ Resume i → ⊥) → factsOf (operandsOf c) v a ≡ factsOf (operandsOf c) v b → SameEffect (a .text) (b .text) (decided c v a) (decided c v b)
   unfolding decided
@@ -103,6 +106,13 @@ view-changed : (l : MLine) (p : ℕ) (s : List ℕ) → viewOf (changed l p s) �
 unfolding viewOf changed renewed
 view-changed l p s = view-pick (eqb p (l .pos)) _ _
 
+abbrev startedView : View → View
+startedView w = record { mode = 1; cipher = w .cipher; pos = 0; due = 0 }
+
+view-started : (l : MLine) (iv : List ℕ) → viewOf (startedLine l iv) ≡ startedView (viewOf l)
+unfolding viewOf startedLine
+view-started l iv = refl
+
 -- ---- what is done
 
 -- the same is public after it, and code, counts and the number of bytes written are the same
@@ -146,6 +156,8 @@ module _ (m m' : Machine) (same : public m ≡ public m') where
       (image-length _ (shown (lineAt m i)) ∙ sym (image-length _ (shown (lineAt m' i))))
   same-perform text text' (change i p s size) (change _ _ s' _) same-change =
       accepted size 0 (put-same i _ _ (view-changed (lineAt m i) p s ∙ ap (λ (w : View). changedView w p) (view-same i) ∙ sym (view-changed (lineAt m' i) p s'))) refl
+  same-perform text text' (start i iv size) (start _ iv' _) same-start =
+      accepted size 0 (put-same i _ _ (view-started (lineAt m i) iv ∙ ap startedView (view-same i) ∙ sym (view-started (lineAt m' i) iv'))) refl
 
   same-step : (a b : Call) → Shares (public m) a b → SameStep (step m a) (step m' b)
   unfolding step

@@ -8,19 +8,19 @@ use lib.Dec.{eqb, leb, ltb}
 use lib.ListN.{length, getD, take, drop}
 use Rattle.words.specs.Strings.{wordAt}
 use Rattle.words.specs.Tests.{both, pick}
-use Rattle.card_sizes.specs.Sizes.{trayIv, ownKey, ownIv, changeIv, changeAt}
+use Rattle.card_sizes.specs.Sizes.{trayIv, ownKey, ownIv, changeIv, changeAt, startIv}
 use Rattle.ciphers.specs.Table.{cipherAt}
 use Rattle.command.specs.declared.Command.{Command}
 use Rattle.command.specs.declared.Command.the-variants.{Resume}
 use Rattle.command.specs.declared.Decoded.the-variants.{Run}
 use Rattle.command.specs.Rows.{either, among}
 use Rattle.command.specs.Decode.{Operands, decodeOf, operandsOf}
-use Rattle.machine.specs.Machine.{Line, Seen, Machine, Call, View, Public, public, fromTray, takesKey, keyField, cipherFor, blankKey, factsOf, step, freshMachine}
+use Rattle.machine.specs.Machine.{Line, Seen, Machine, Call, View, Public, public, fromTray, takesIv, keyField, cipherFor, blankKey, factsOf, step, freshMachine}
 use Rattle.machine.specs.Calls.{Made}
 
 -- ---- the trace
 
--- What is shown after a call: its code, its three counts and all that is public of the card: of each line its mode (0 idle, 1 open), its cipher, its position and that of a change that waits,
+-- What is shown after a call: its code, its three counts and all that is public of the card: of each line its mode (0 idle, 1 open, 2 loaded), its cipher, its position and that of a change that waits,
 -- and the parks.
 pub record Trace : Type 0 where
   pub code : ℕ
@@ -46,9 +46,9 @@ operandsFor k s =
     record {
       kind = k;
       line = getD s 1 0;
-      cipher = pick (among (1 ∷ 2 ∷ []) k) (getD s 2 0) 0;
-      keyNumber = pick (eqb k 1) (getD s 3 0) (pick (eqb k 7) (getD s 2 0) 0);
-      ivAt = pick (eqb k 1) trayIv (pick (eqb k 2) ownIv (pick (eqb k 7) changeIv 0));
+      cipher = pick (among (1 ∷ 2 ∷ 8 ∷ []) k) (getD s 2 0) 0;
+      keyNumber = pick (among (1 ∷ 8 ∷ []) k) (getD s 3 0) (pick (eqb k 7) (getD s 2 0) 0);
+      ivAt = pick (eqb k 1) trayIv (pick (eqb k 2) ownIv (pick (eqb k 7) changeIv (pick (eqb k 9) startIv 0)));
       count = pick (eqb k 3) (getD s 2 0 * 256 + getD s 3 0) 0;
       position = pick (eqb k 7) (wordAt s changeAt * 2 ^ 32 + wordAt s (changeAt + 4)) 0;
     }
@@ -62,7 +62,7 @@ within from n i = both (leb from i) (ltb i (from + n))
 
 -- byte i of the command is one that it uses of its own key or of its IV: one within the lengths of cipher c
 abbrev pub usesByte : Operands → (c i : ℕ) → Bool
-usesByte o c i = either (both (eqb (o .kind) 2) (within ownKey (cipherAt c .key) i)) (both (takesKey o) (within (o .ivAt) (cipherAt c .iv) i))
+usesByte o c i = either (both (eqb (o .kind) 2) (within ownKey (cipherAt c .key) i)) (both (takesIv o) (within (o .ivAt) (cipherAt c .iv) i))
 
 -- ---- two lists of calls
 
@@ -77,7 +77,7 @@ abbrev pub machineOn : Machine → List Call → Machine
 machineOn m [] = m
 machineOn m (a ∷ more) = machineOn (step m a .machine) more
 
--- the operands of call n, and the cipher whose lengths its key and its IV have: the one that an open names, and of a change its line's before the call
+-- the operands of call n, and the cipher whose lengths its key and its IV have: the one that an open or a load names, and of a change or a start its line's before the call
 abbrev pub operandsIn : List Call → ℕ → Operands
 operandsIn calls n = operandsAt (callAt calls n .command)
 

@@ -76,11 +76,20 @@ impl Builder {
     }
 
     pub fn idle_lines(&self) -> Vec<u8> {
-        (0..8).filter(|&line| self.machine.open(line).is_none()).collect()
+        (0..8).filter(|&line| self.machine.idle(line)).collect()
+    }
+
+    pub fn loaded_lines(&self) -> Vec<u8> {
+        (0..8).filter(|&line| self.machine.loaded(line).is_some()).collect()
     }
 
     pub fn open_lines(&self) -> Vec<u8> {
         (0..8).filter(|&line| self.machine.open(line).is_some()).collect()
+    }
+
+    /// The cipher of a loaded line.
+    pub fn loaded(&self, line: u8) -> Option<u8> {
+        self.machine.loaded(line).map(|loaded| loaded.cipher)
     }
 
     /// The cipher of an open line.
@@ -88,7 +97,7 @@ impl Builder {
         self.machine.open(line).map(|(cipher, _)| cipher)
     }
 
-    /// The position of an open line; 0 of an idle one.
+    /// The position of an open line; 0 of another.
     pub fn position(&self, line: u8) -> u64 {
         self.machine.open(line).map_or(0, |(_, position)| position)
     }

@@ -4,6 +4,7 @@
 use crate::changes::Changes;
 use crate::command::{length, CRYPT, IMAGE, PARK};
 use crate::ledger::Ledger;
+use crate::loads::Loads;
 use crate::machine::{Answer, Machine};
 use crate::mixed::{self, CallList};
 use crate::named::Case;
@@ -116,16 +117,17 @@ impl<C: Card> Subject for CallByCall<C> {
 }
 
 impl<C: Card> CallByCall<C> {
-    /// Makes calls on a card that begins as the machine does, which must have no line open and hold no number.
+    /// Makes calls on a card that begins as the machine does, which must have all lines idle and hold no number.
     fn hold_calls(&mut self, mut machine: Machine, calls: impl IntoIterator<Item = OwnCall>) -> Result<Tally, String> {
         let (mut tally, mut ledger) = (Tally::default(), Ledger::after(machine.parks().made()));
-        let mut changes = Changes::default();
+        let (mut changes, mut loads) = (Changes::default(), Loads::default());
         self.card.begin(&machine);
         for (i, mut call) in calls.into_iter().enumerate() {
             let answer = hold_call(&mut machine, &mut self.card, &mut call);
             let answer = answer.map_err(|told| format!("call {}: {told}", i + 1))?;
             tally.note(&mut ledger, &call.command, &answer, &call.out);
             tally.note_change(&mut changes, &call.command, &answer);
+            tally.note_load(&mut loads, &call.command, &answer);
         }
         Ok(tally)
     }
@@ -209,7 +211,8 @@ mod tests {
     #[test]
     fn the_machine_agrees_with_itself_and_meets_every_code() {
         let tally = held(Machine::fresh()).unwrap();
-        assert!(tally.codes.iter().chain(&tally.resumes).chain(&tally.changes).all(|&count| count > 0), "{tally:?}");
+        let counts = tally.codes.iter().chain(&tally.resumes).chain(&tally.changes).chain(&tally.loads);
+        assert!(counts.into_iter().all(|&count| count > 0), "{tally:?}");
     }
 
     #[test]

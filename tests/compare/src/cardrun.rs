@@ -4,6 +4,7 @@
 use crate::changes::Changes;
 use crate::ledger::Ledger;
 use crate::lists::{self, List};
+use crate::loads::Loads;
 use crate::named::Case;
 use crate::program::{self, Run};
 use crate::subject::{first_difference, Subject, Tally};
@@ -59,10 +60,12 @@ impl Cardrun {
             fs::remove_dir_all(&folder).map_err(|error| format!("{}: {error}", folder.display()))?;
         }
         outcome?;
-        let (mut tally, mut ledger, mut changes) = (Tally::default(), Ledger::default(), Changes::default());
+        let (mut tally, mut ledger) = (Tally::default(), Ledger::default());
+        let (mut changes, mut loads) = (Changes::default(), Loads::default());
         for (call, answer, out) in run.written() {
             tally.note(&mut ledger, call.command, answer, out);
             tally.note_change(&mut changes, call.command, answer);
+            tally.note_load(&mut loads, call.command, answer);
         }
         Ok(tally)
     }

@@ -1,6 +1,6 @@
 //! The worked cases, edges and example of document 01, checked of the second implementation before it is used; the
-//! edges of park are those of an image of 165 bytes, and edges of the parks' numbers, of keys and of changes of key stand
-//! beside them.
+//! edges of park are those of an image of 165 bytes, and edges of the parks' numbers, of keys, of changes of key and of loads
+//! stand beside them.
 
 use crate::cipher::LAST;
 use crate::command::{self, numbered, padded, IMAGE, IV, RECORD};
@@ -12,7 +12,7 @@ use crate::{aes, hex, rabbit, snow2, zuc};
 
 /// Checks all cases; tells how many there are, or the first that fails.
 pub fn check() -> Result<usize, String> {
-    let groups = [values(), edges(), numbers(), keys(), changes(), example()];
+    let groups = [values(), edges(), numbers(), keys(), changes(), loads(), example()];
     let cases: Vec<(&str, bool)> = groups.into_iter().flatten().collect();
     match cases.iter().find(|(_, holds)| !holds) {
         Some((name, _)) => Err(format!("a case of document 01 fails: {name}")),
@@ -63,7 +63,7 @@ fn edges() -> Vec<(&'static str, bool)> {
         ("out of 165 bytes for park is enough", code(&own, &command::park(7), 0, 0, 165) == 0),
         ("count 0 needs neither data nor out", code(&own, &command::crypt(7, 0), 0, 0, 0) == 0),
         ("an empty command is 1", code(&[], &[], 0, 0, 0) == 1),
-        ("an unknown command is 2 though it is short", code(&[], &[8], 0, 0, 0) == 2),
+        ("an unknown command is 2 though it is short", code(&[], &[10], 0, 0, 0) == 2),
     ]
 }
 
@@ -135,6 +135,35 @@ fn changes() -> Vec<(&'static str, bool)> {
     ]
 }
 
+/// The edges of a load and of a start.
+fn loads() -> Vec<(&'static str, bool)> {
+    let (load, start) = (|cipher: u8| command::load(0, cipher, 0), |iv: &[u8]| command::start(0, &padded(iv, IV)));
+    let loaded = [load(4)];
+    let rabbit = [command::open_own(0, 2, &padded(&[1], RECORD), &[0; IV])];
+    let after = |before: &[Vec<u8>], last: &[u8]| code(before, last, RECORD, 9, IMAGE);
+    let all = |codes: &[u8], wanted: u8| codes.iter().all(|&code| code == wanted);
+    let opens = [command::open_tray(0, 4, 0, &[0; IV]), open(0), command::resume(0, &image(4, 0, 0, &[])), load(4)];
+    let others = [command::crypt(0, 0), command::park(0), command::change_key(0, 0, &[0; IV], 0)];
+    vec![
+        ("a load is accepted", after(&[], &load(4)) == 0),
+        ("a load with 32 key bytes is 7 but for cipher 4", all(&[1, 2, 3, 5, 6].map(|c| after(&[], &load(c))), 7)),
+        ("a load with cipher 7 is 4", after(&[], &load(7)) == 4),
+        ("a load from an empty tray is 10", code(&[], &load(4), 0, 0, 0) == 10),
+        ("a load of three bytes is 1", after(&[], &load(4)[..3]) == 1),
+        ("a start of a loaded line is accepted", after(&loaded, &start(&[5; IV])) == 0),
+        ("a start of 17 bytes is 1", after(&loaded, &start(&[5; IV])[..17]) == 1),
+        ("a start of an idle line is 19", after(&[], &start(&[])) == 19),
+        ("a start of an open line is 19", after(&[open(0)], &start(&[])) == 19),
+        ("a second start is 19", after(&[load(4), start(&[])], &start(&[])) == 19),
+        ("a start after a close is 19", after(&[load(4), command::close(0)], &start(&[])) == 19),
+        ("19 before 7", after(&rabbit, &start(&[5; IV])) == 19),
+        ("an open, a resume and a load of a loaded line are 5", all(&opens.map(|last| after(&loaded, &last)), 5)),
+        ("a crypt, a park and a change there are 6", all(&others.map(|last| after(&loaded, &last)), 6)),
+        ("a close there is accepted", after(&loaded, &command::close(0)) == 0),
+        ("and the line is idle", after(&[load(4), command::close(0)], &command::close(0)) == 6),
+    ]
+}
+
 fn open(line: u8) -> Vec<u8> {
     command::open_own(line, 2, &padded(&[1], RECORD), &[0; 16])
 }
@@ -179,6 +208,6 @@ mod tests {
 
     #[test]
     fn cases_hold() {
-        assert_eq!(check(), Ok(57));
+        assert_eq!(check(), Ok(73));
     }
 }

@@ -2,7 +2,7 @@
 //! that waits there follow from the accepted commands, whatever the ciphers give. From there it is told where a change
 //! came due, and why one or a park was refused.
 
-use crate::command::{self, CHANGE_KEY, CLOSE, CRYPT, OPEN_OWN, OPEN_TRAY, PARK, RESUME};
+use crate::command::{self, CHANGE_KEY, CLOSE, CRYPT, OPEN_OWN, OPEN_TRAY, PARK, RESUME, START};
 use crate::machine::{Answer, END};
 
 /// Where a change came due or that it was dropped, or why it or a park was refused.
@@ -47,7 +47,7 @@ impl Place {
     }
 }
 
-/// The lines of a card as far as their changes go; all of them are idle at first.
+/// The open lines of a card as far as their changes go; there are none at first.
 #[derive(Clone, Default)]
 pub struct Changes {
     lines: [Option<Place>; 8],
@@ -58,7 +58,7 @@ impl Changes {
     pub fn note(&mut self, command: &[u8], answer: &Answer) -> Option<Change> {
         let line = self.lines.get_mut(usize::from(*command.get(1)?))?;
         match (command[0], answer.code) {
-            (OPEN_TRAY | OPEN_OWN, 0) => *line = Place::at(0),
+            (OPEN_TRAY | OPEN_OWN | START, 0) => *line = Place::at(0),
             (RESUME, 0) => *line = Place::at(command::image_position(&command[2..])),
             (CHANGE_KEY, 0) => return changed(line.as_mut()?, command::position(command)),
             (CRYPT, 0) => return moved(line.as_mut()?, command::count(command) as u64),

@@ -22,6 +22,26 @@ pub trait Cipher: Sync {
     /// S(0) of a key and an IV, which have the lengths of `shape`.
     fn init(&self, key: &[u8], iv: &[u8]) -> State;
 
+    /// The bytes that a loaded line keeps of a key: the key itself.
+    fn load(&self, key: &[u8]) -> Vec<u8> {
+        key.to_vec()
+    }
+
+    /// How many bytes a loaded line keeps.
+    fn kept(&self) -> usize {
+        self.shape().key
+    }
+
+    /// Whether a loaded line may keep these bytes, whose number is `kept`.
+    fn keeps(&self, kept: &[u8]) -> bool {
+        kept.iter().any(|&byte| byte != 0)
+    }
+
+    /// S(0) of what a loaded line keeps and an IV.
+    fn start(&self, kept: &[u8], iv: &[u8]) -> State {
+        self.init(kept, iv)
+    }
+
     /// Takes S(i) to S(i+1).
     fn next(&self, state: &mut State);
 
@@ -83,6 +103,21 @@ mod tests {
             assert_eq!(cipher.state_of(&bytes), state);
             assert_eq!(cipher.strm(&state).len(), shape.unit);
             assert!(cipher.admits(&state));
+        }
+    }
+
+    #[test]
+    fn a_load_and_a_start_give_the_state_of_key_and_iv() {
+        for number in 1..=LAST {
+            let cipher = by_number(number).unwrap();
+            let shape = cipher.shape();
+            let key: Vec<u8> = (1..).take(shape.key).collect();
+            let kept = cipher.load(&key);
+            assert_eq!((kept.len(), cipher.keeps(&kept)), (cipher.kept(), true));
+            assert_eq!(kept == key, number != 2);
+            for iv in [vec![0; shape.iv], (7..).take(shape.iv).collect()] {
+                assert_eq!(cipher.start(&kept, &iv), cipher.init(&key, &iv));
+            }
         }
     }
 

@@ -1,4 +1,4 @@
-//! The seven commands as bytes: their lengths, where their operands stand, and writers for them.
+//! The nine commands as bytes: their lengths, where their operands stand, and writers for them.
 
 pub const OPEN_TRAY: u8 = 1;
 pub const OPEN_OWN: u8 = 2;
@@ -7,6 +7,8 @@ pub const PARK: u8 = 4;
 pub const RESUME: u8 = 5;
 pub const CLOSE: u8 = 6;
 pub const CHANGE_KEY: u8 = 7;
+pub const LOAD: u8 = 8;
+pub const START: u8 = 9;
 
 /// The length of an image, and where the number of its park and the state begin in it.
 pub const IMAGE: usize = 165;
@@ -31,6 +33,8 @@ pub fn length(first: u8) -> Option<usize> {
         PARK | CLOSE => Some(2),
         RESUME => Some(2 + IMAGE),
         CHANGE_KEY => Some(POSITION_AT + 8),
+        LOAD => Some(4),
+        START => Some(2 + IV),
         _ => None,
     }
 }
@@ -62,6 +66,14 @@ pub fn close(line: u8) -> Vec<u8> {
 
 pub fn change_key(line: u8, key_number: u8, iv: &[u8], position: u64) -> Vec<u8> {
     [&[CHANGE_KEY, line, key_number], iv, &position.to_be_bytes()].concat()
+}
+
+pub fn load(line: u8, cipher: u8, key_number: u8) -> Vec<u8> {
+    vec![LOAD, line, cipher, key_number]
+}
+
+pub fn start(line: u8, iv: &[u8]) -> Vec<u8> {
+    [&[START, line], iv].concat()
 }
 
 /// The count of a crypt.

@@ -43,12 +43,12 @@ pub fn list(mut random: Random, kind: usize) -> Files {
 /// A command file of one byte: a known command cut short, or an unknown one.
 fn one_byte(mut random: Random) -> Files {
     let any = random.byte();
-    let byte = random.pick(&[0, 1, 2, 3, 4, 5, 6, 7, 8, 255, any]);
+    let byte = random.pick(&[0, 1, 2, 3, 4, 5, 6, 7, 8, 9, 10, 255, any]);
     Files { cmd: Some(vec![byte]), ..Files::default() }
 }
 
-/// A tray of `length` bytes, and opens and changes of key with some of its last key, any, the first, the one after the
-/// last and 255.
+/// A tray of `length` bytes, and opens, loads and changes of key with some of its last key, any, the first, the one after
+/// the last and 255.
 fn opens(mut random: Random, length: usize) -> Files {
     let mut tray = trays::records(&mut random, length.div_ceil(RECORD));
     tray.truncate(length);
@@ -64,11 +64,18 @@ fn opens(mut random: Random, length: usize) -> Files {
     for (line, number) in (0..).zip(numbers) {
         // A cipher with a key of 32 bytes takes every record but a blank one.
         let iv = plain::iv(&mut b.random, 4);
-        if b.random.chance(60) {
-            b.put(&command::open_tray(line, 4, number, &iv));
-        } else {
-            b.put(&command::open_own(line, 4, &[5; RECORD], &iv));
-            b.put(&command::change_key(line, number, &iv, 4));
+        match b.random.between(0, 9) {
+            0..=3 => {
+                b.put(&command::open_tray(line, 4, number, &iv));
+            }
+            4..=6 => {
+                b.put(&command::load(line, 4, number));
+                b.put(&command::start(line, &iv));
+            }
+            _ => {
+                b.put(&command::open_own(line, 4, &[5; RECORD], &iv));
+                b.put(&command::change_key(line, number, &iv, 4));
+            }
         }
         b.put(&command::crypt(line, 9));
     }
@@ -119,28 +126,33 @@ fn full_commands(mut random: Random, cut: bool) -> Files {
 fn tail(b: &mut Builder) -> Vec<u8> {
     let lines = b.idle_lines();
     let line = if lines.is_empty() { 0 } else { b.random.pick(&lines) };
-    match b.random.between(0, 3) {
+    match b.random.between(0, 5) {
         0 => command::open_tray(line, 4, 0, &[0; 16]),
         1 => command::resume(line, &[0; IMAGE]),
         2 => command::change_key(line, 0, &[0; 16], 0),
+        3 => command::load(line, 4, 0),
+        4 => command::start(line, &[0; 16]),
         _ => command::crypt(line, 0),
     }
 }
 
 /// Adds one command, such that others can make up what is left before the last `kept` bytes that are read: one of
-/// odd length if that is odd, a close if it isn't a multiple of 4, else a frame. Tells whether it is accepted.
+/// odd length if that is odd, a close if it isn't a multiple of 4, else a frame, or what opens a line for one. Tells whether it is accepted.
 fn pad(b: &mut Builder, kept: usize) -> bool {
-    let (idle, open) = (b.idle_lines(), b.open_lines());
-    match ((b.room() - kept) % 4, open.first(), idle.first()) {
+    let (idle, loaded, open) = (b.idle_lines(), b.loaded_lines(), b.open_lines());
+    let busy = open.first().or(loaded.first());
+    match ((b.room() - kept) % 4, busy, idle.first()) {
         (1 | 3, _, Some(&line)) => b.put(&command::open_own(line, 4, &[5; RECORD], &[7; 16])),
         (1..=3, Some(&line), _) => b.put(&command::close(line)),
-        (_, Some(_), _) => {
+        (_, Some(_), _) if !open.is_empty() => {
             let line = b.random.pick(&open);
             let fits = b.data_left() > 4 && b.line_left(line) > 4;
             let count = if fits && b.random.chance(10) { 3 } else { 0 };
             b.put(&command::crypt(line, count))
         }
-        (_, None, _) => b.put(&command::open_tray(0, 4, 0, &[9; 16])),
+        (_, _, Some(&line)) => b.put(&command::open_tray(line, 4, 0, &[9; 16])),
+        // All the lines are loaded.
+        _ => b.put(&command::start(0, &[0; 16])),
     }
 }
 

@@ -2,7 +2,8 @@
 
 use crate::builder::Builder;
 use crate::cipher::LAST;
-use crate::command::{self, numbered, park_number, CHANGE_KEY, CRYPT, OPEN_OWN, OPEN_TRAY, PARK, RECORD, RESUME};
+use crate::command::{self, numbered, park_number, RECORD};
+use crate::command::{CHANGE_KEY, CRYPT, LOAD, OPEN_OWN, OPEN_TRAY, PARK, RESUME, START};
 use crate::plan::Plan;
 use crate::{changing, images, plain, spent, trays};
 
@@ -18,11 +19,13 @@ pub fn command(b: &mut Builder, plan: &Plan, line: u8) -> Vec<u8> {
         PARK => command::park(line),
         RESUME => command::resume(line, &image(b, plan)),
         CHANGE_KEY => change_key(b, plan, line),
+        LOAD => load(b, plan, line),
+        START => start(b, plan, line),
         _ => command::close(line),
     };
     if plan.has(2) {
-        let any = b.random.between(8, 255) as u8;
-        command[0] = b.random.pick(&[0, 8, 9, 10, 135, 255, any]);
+        let any = b.random.between(10, 255) as u8;
+        command[0] = b.random.pick(&[0, 10, 11, 12, 137, 255, any]);
     }
     if plan.has(1) {
         let length = b.random.size(1, command.len() - 1);
@@ -82,7 +85,21 @@ fn open_tray(b: &mut Builder, plan: &Plan, line: u8) -> Vec<u8> {
     command::open_tray(line, operand, number, &iv)
 }
 
-/// A change of a line's key; of an idle line it is one for the planned cipher.
+fn load(b: &mut Builder, plan: &Plan, line: u8) -> Vec<u8> {
+    let cipher = cipher(b, plan);
+    let number = key_number(b, plan, cipher);
+    let operand = cipher_operand(b, plan, cipher);
+    command::load(line, operand, number)
+}
+
+/// A start of a line; of one that isn't loaded it is one for the planned cipher.
+fn start(b: &mut Builder, plan: &Plan, line: u8) -> Vec<u8> {
+    let loaded = if line < 8 { b.loaded(line) } else { None };
+    let cipher = loaded.unwrap_or_else(|| cipher(b, plan));
+    command::start(line, &iv(b, plan, cipher))
+}
+
+/// A change of a line's key; of one that isn't open it is one for the planned cipher.
 fn change_key(b: &mut Builder, plan: &Plan, line: u8) -> Vec<u8> {
     let (open, position) = if line < 8 { (b.cipher(line), b.position(line)) } else { (None, 0) };
     let cipher = open.unwrap_or_else(|| cipher(b, plan));

@@ -2,7 +2,7 @@
 
 use crate::program::Files;
 use crate::random::Random;
-use crate::{changing, damage, edges, fill, odd, plain};
+use crate::{changing, damage, edges, fill, loading, odd, plain};
 
 /// A command list as the files that `cardrun` finds.
 pub struct List {
@@ -13,27 +13,29 @@ pub struct List {
 }
 
 /// The refusals that lists end in, in turn; those that others often hide come more than once.
-const REFUSALS: [u8; 28] =
-    [13, 1, 2, 3, 4, 5, 6, 17, 7, 16, 8, 14, 18, 9, 10, 11, 12, 13, 4, 5, 6, 10, 11, 17, 13, 14, 18, 16];
+const REFUSALS: [u8; 27] =
+    [13, 1, 2, 3, 4, 5, 6, 19, 17, 7, 16, 8, 14, 18, 9, 10, 11, 12, 13, 4, 5, 6, 10, 11, 19, 13, 14];
 
-/// List `number` of `seed`. Of thirty-two in a row, three are well formed, one is about positions, two are about changes
-/// of key, three end in a refusal, one in a stray byte, one in a blank key, one in a bad image, one in a number that
-/// isn't held, three in a change that is refused and eleven with two faults at once, all of them in turn, two are
-/// damaged, two are at a limit of the files, in turn, and one fills out.
+/// List `number` of `seed`. Of thirty-six in a row, two are well formed, one is about positions, two are about changes of
+/// key, two about loads, two end in a refusal, one in a stray byte, one in a blank key, one in a bad image, one in a number
+/// that isn't held, three in a change that is refused, one in a load or a start that is, or in another command on a loaded
+/// line, and fifteen with two faults at once, all of them in turn, two are at a limit of the files, in turn, one is
+/// damaged, and one fills out.
 pub fn list(seed: u64, number: u64) -> List {
     let mut random = Random::new(seed, number);
     let stale = random.chance(25).then(|| {
         let length = random.size(1, 400);
         random.bytes(length)
     });
-    let (round, slot) = (number / 32, number % 32);
+    let (round, slot) = (number / 36, number % 36);
     let turn = |first: u64, slots: u64| (slots * round + slot - first) as usize;
     let (kind, files) = match slot {
-        0..=2 => ("well formed".to_string(), plain::list(random)),
-        3 => ("positions".to_string(), plain::far(random)),
-        4 | 5 => ("changes of key".to_string(), changing::list(random)),
-        6..=8 => {
-            let refusal = REFUSALS[turn(6, 3) % REFUSALS.len()];
+        0 | 1 => ("well formed".to_string(), plain::list(random)),
+        2 => ("positions".to_string(), plain::far(random)),
+        3 | 4 => ("changes of key".to_string(), changing::list(random)),
+        5 | 6 => ("loads".to_string(), loading::list(random)),
+        7 | 8 => {
+            let refusal = REFUSALS[turn(7, 2) % REFUSALS.len()];
             (format!("refusal {refusal}"), odd::single(random, refusal))
         }
         9 => ("stray byte".to_string(), odd::stray(random, turn(9, 1))),
@@ -41,12 +43,13 @@ pub fn list(seed: u64, number: u64) -> List {
         11 => ("bad image".to_string(), odd::image(random, turn(11, 1))),
         12 => ("number not held".to_string(), odd::number(random, turn(12, 1))),
         13..=15 => ("change refused".to_string(), odd::change(random, turn(13, 3))),
-        16..=26 => ("two faults".to_string(), odd::pair(random, turn(16, 11))),
-        27 | 28 => ("damaged".to_string(), damage::list(random)),
-        29 | 30 => {
-            let edge = turn(29, 2) % edges::KINDS;
+        16 => ("load refused".to_string(), odd::load(random, turn(16, 1))),
+        17..=31 => ("two faults".to_string(), odd::pair(random, turn(17, 15))),
+        32 | 33 => {
+            let edge = turn(32, 2) % edges::KINDS;
             (format!("limit of the files {edge}"), edges::list(random, edge))
         }
+        34 => ("damaged".to_string(), damage::list(random)),
         _ => ("out filled".to_string(), fill::list(random)),
     };
     List { kind, files, stale }
@@ -60,7 +63,7 @@ mod tests {
 
     #[test]
     fn each_number_is_met_in_two_hundred_lists() {
-        let (mut met, all) = (HashSet::new(), (0..=14).chain(16..=18).collect::<HashSet<u8>>());
+        let (mut met, all) = (HashSet::new(), (0..=14).chain(16..=19).collect::<HashSet<u8>>());
         for number in 0..200 {
             met.extend(program::run(&list(5, number).files).calls.iter().map(|(_, answer)| answer.code));
         }

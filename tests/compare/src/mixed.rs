@@ -1,6 +1,7 @@
 //! Lists of single calls from a seed: the calls of several command lists mixed on one card, with crypts, parks, resumes,
-//! opens and changes of key between them, so that numbers are held, taken up and replaced, images come again, keys of
-//! every make are given to a card in use, and changes wait, come due and stand in the way of others.
+//! opens, changes of key, loads and starts between them, so that numbers are held, taken up and replaced, images come
+//! again, keys of every make are given to a card in use, changes wait, come due and stand in the way of others, and every
+//! command is given to a loaded line.
 
 use crate::calls::{self, OwnCall};
 use crate::cipher::LAST;
@@ -95,8 +96,8 @@ impl Part {
     }
 }
 
-/// An open of an idle line with any cipher. The key is one of three in the tray, where it is put, or the command's own:
-/// at times it is blank, or so but for one byte.
+/// An open or a load of an idle line with any cipher. The key is one of three in the tray, where it is put, or an open's
+/// own: at times it is blank, or so but for one byte.
 fn opened(random: &mut Random, idle: &[u8], tray: &mut [u8]) -> Vec<u8> {
     let (line, cipher) = (random.pick(idle), random.between(1, LAST.into()) as u8);
     let (number, iv) = (random.size(0, 2), plain::iv(random, cipher));
@@ -105,11 +106,31 @@ fn opened(random: &mut Random, idle: &[u8], tray: &mut [u8]) -> Vec<u8> {
         3 => random.alone(RECORD),
         _ => trays::record(random),
     };
-    if random.chance(50) {
+    let way = random.between(0, 2);
+    if way == 0 {
         return command::open_own(line, cipher, &key, &iv);
     }
     tray[RECORD * number..][..RECORD].copy_from_slice(&key);
-    command::open_tray(line, cipher, number as u8, &iv)
+    match way {
+        1 => command::open_tray(line, cipher, number as u8, &iv),
+        _ => command::load(line, cipher, number as u8),
+    }
+}
+
+/// A command on a loaded line: mostly a start, at times with an IV that isn't for the line's cipher, or a close, else one
+/// that is refused there.
+fn on_loaded(random: &mut Random, line: u8, cipher: u8, tray: &mut [u8]) -> Vec<u8> {
+    let iv = plain::iv(random, cipher);
+    match random.between(0, 11) {
+        0..=3 if cipher == 2 && random.chance(50) => command::start(line, &random.bytes(command::IV)),
+        0..=5 => command::start(line, &iv),
+        6 => command::close(line),
+        7 => command::crypt(line, random.between(0, 9) as u16),
+        8 => command::park(line),
+        9 => changed(random, line, (cipher, 0), tray),
+        10 => command::resume(line, &images::elsewhere(random)),
+        _ => opened(random, &[line], tray),
+    }
 }
 
 /// A change of the key of an open line. The key is one of three in the tray, where it is put, mostly one for the line's
@@ -143,12 +164,19 @@ impl Table {
         (answer.code, self.machine.parks().made())
     }
 
-    /// Makes a crypt, a park or a change on an open line or a resume or an open on an idle one, and gives it; at times the
-    /// tray is cut off.
+    /// Makes a crypt, a park or a change on an open line, a resume, an open or a load on an idle one, or any command on a
+    /// loaded one, and gives it; at times the tray is cut off.
     fn added(&mut self, random: &mut Random) -> OwnCall {
-        let (open, idle): (Vec<u8>, Vec<u8>) = (0..8).partition(|&line| self.machine.open(line).is_some());
+        let (idle, busy): (Vec<u8>, Vec<u8>) = (0..8).partition(|&line| self.machine.idle(line));
+        let (open, loaded): (Vec<u8>, Vec<u8>) = busy.iter().partition(|&&line| self.machine.open(line).is_some());
         let mut tray = trays::records(random, 3);
-        let command = if !idle.is_empty() && random.chance(12) {
+        let command = if !loaded.is_empty() && (busy.len() == 8 && open.is_empty() || random.chance(25)) {
+            let line = random.pick(&loaded);
+            let cipher = self.machine.loaded(line).map_or(1, |loaded| loaded.cipher);
+            on_loaded(random, line, cipher, &mut tray)
+        } else if random.chance(3) {
+            command::start(random.between(0, 7) as u8, &random.bytes(command::IV))
+        } else if !idle.is_empty() && random.chance(12) {
             opened(random, &idle, &mut tray)
         } else if open.is_empty() || !idle.is_empty() && random.chance(40) {
             command::resume(random.pick(&idle), &self.image(random))
@@ -223,7 +251,7 @@ mod tests {
     use crate::subject::{Subject, Tally};
 
     #[test]
-    fn images_and_changes_are_taken_up_and_refused_in_every_way() {
+    fn images_changes_and_loads_are_taken_up_and_refused_in_every_way() {
         let (mut tally, mut subject) = (Tally::default(), CallByCall { card: Machine::fresh() });
         (0..100).for_each(|number| tally.add(&subject.hold(8, number).unwrap()));
         assert!(tally.resumes[Resume::AsParked as usize] > 180, "{tally:?}");
@@ -231,6 +259,7 @@ mod tests {
         assert!(tally.codes[15] > 60 && tally.codes[16] > 30, "{tally:?}");
         assert!(tally.codes[17] > 100 && tally.codes[18] > 40, "{tally:?}");
         assert!(tally.changes.iter().all(|&count| count > 0), "{tally:?}");
+        assert!(tally.codes[19] > 60 && tally.loads.iter().all(|&count| count > 4), "{tally:?}");
     }
 
     #[test]

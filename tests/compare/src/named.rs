@@ -11,6 +11,7 @@ mod full;
 mod images;
 mod late;
 mod limits;
+mod loads;
 mod numbers;
 mod order;
 mod parks;
@@ -33,6 +34,7 @@ pub fn all() -> Vec<Case> {
         changes::cases(),
         waiting::cases(),
         late::cases(),
+        loads::cases(),
         frames::cases(),
         parks::cases(),
         numbers::cases(),
@@ -59,7 +61,7 @@ mod tests {
 
     #[test]
     fn cases_hold_and_have_names_of_their_own() {
-        assert_eq!(check(), Ok(2064));
+        assert_eq!(check(), Ok(2727));
         let cases = all();
         let names: HashSet<&str> = cases.iter().map(Case::name).collect();
         assert_eq!(names.len(), cases.len());

@@ -3,15 +3,15 @@
 
 use crate::builder::Builder;
 use crate::cipher::LAST;
-use crate::command::{self, CHANGE_KEY, OPEN_OWN, OPEN_TRAY, PARK, RESUME};
+use crate::command::{self, CHANGE_KEY, CLOSE, CRYPT, LOAD, OPEN_OWN, OPEN_TRAY, PARK, RESUME, START};
 use crate::plan::{self, Plan};
 use crate::program::{Files, READ};
 use crate::random::Random;
-use crate::{changing, faulty, fill, images, plain, spent};
+use crate::{changing, faulty, fill, images, loading, plain, spent};
 
 /// A list whose last command has the fault that `number` names.
 pub fn single(mut random: Random, number: u8) -> Files {
-    let kinds: Vec<u8> = (OPEN_TRAY..=CHANGE_KEY).filter(|&kind| plan::numbers(kind).contains(&number)).collect();
+    let kinds: Vec<u8> = (OPEN_TRAY..=START).filter(|&kind| plan::numbers(kind).contains(&number)).collect();
     let kind = random.pick(&kinds);
     let plan = Plan::new(&mut random, kind, &[number]);
     list(random, plan)
@@ -73,6 +73,32 @@ pub fn change(mut random: Random, index: usize) -> Files {
     list(random, Plan { faults: vec![fault], cipher, in_iv: cipher == 2, place: round / usize::from(LAST), ..any })
 }
 
+/// What refuses a load, a start, and other commands on a loaded line.
+const LOADS: [(u8, u8); 14] = [
+    (START, 19),
+    (LOAD, 5),
+    (START, 7),
+    (LOAD, 7),
+    (CRYPT, 6),
+    (LOAD, 16),
+    (PARK, 6),
+    (OPEN_TRAY, 5),
+    (CHANGE_KEY, 6),
+    (OPEN_OWN, 5),
+    (RESUME, 5),
+    (LOAD, 9),
+    (LOAD, 10),
+    (LOAD, 4),
+];
+
+/// A list that ends with such a refusal, by this index each of them with each cipher.
+pub fn load(mut random: Random, index: usize) -> Files {
+    let (kind, fault) = LOADS[index % LOADS.len()];
+    let cipher = 1 + ((index + index / LOADS.len()) % usize::from(LAST)) as u8;
+    let any = Plan::new(&mut random, kind, &[]);
+    list(random, Plan { faults: vec![fault], cipher, place: index / LOADS.len(), ..any })
+}
+
 /// Some accepted commands, then the planned one, then perhaps some that aren't run.
 fn list(mut random: Random, plan: Plan) -> Files {
     let tray = plan.tray(&mut random);
@@ -100,14 +126,24 @@ fn list(mut random: Random, plan: Plan) -> Files {
     b.files()
 }
 
-/// The line for the last command, made open or idle as the plan has it.
+/// The line for the last command, made open, loaded or idle as the plan has it. Where a line must not be idle or must not
+/// be open, it is at times a loaded one.
 fn line(b: &mut Builder, plan: &Plan) -> u8 {
     if plan.has(3) {
         let any = b.random.between(8, 255) as u8;
         return b.random.pick(&[8, 9, 16, 255, any]);
     }
-    let starts = [OPEN_TRAY, OPEN_OWN, RESUME].contains(&plan.kind);
-    let open = if starts { plan.has(5) } else { !plan.has(6) };
+    if plan.kind == START {
+        return line_to_start(b, plan);
+    }
+    let needs_idle = [OPEN_TRAY, OPEN_OWN, RESUME, LOAD].contains(&plan.kind);
+    let open = if needs_idle { plan.has(5) } else { !plan.has(6) };
+    if (plan.has(5) || plan.has(6) && plan.kind != CLOSE) && b.random.chance(40) {
+        let (line, cipher) = (plain::idle_line(b), faulty::cipher(b, plan));
+        if loading::load_with(b, line, cipher) {
+            return line;
+        }
+    }
     if open && plan.has(13) {
         let line = plain::idle_line(b);
         let position = images::near_end(&mut b.random);
@@ -121,6 +157,17 @@ fn line(b: &mut Builder, plan: &Plan) -> u8 {
     } else {
         plain::idle_line(b)
     }
+}
+
+/// A line loaded with the planned cipher; with 19 an idle one, or one that is open with it.
+fn line_to_start(b: &mut Builder, plan: &Plan) -> u8 {
+    let (line, cipher) = (plain::idle_line(b), faulty::cipher(b, plan));
+    if !plan.has(19) {
+        loading::load_with(b, line, cipher);
+    } else if b.random.chance(60) {
+        plain::open_with(b, line, cipher);
+    }
+    line
 }
 
 /// A line of the planned cipher behind its first byte, with a change waiting if 17 is planned.
@@ -159,7 +206,7 @@ mod tests {
 
     #[test]
     fn every_number_is_met() {
-        for number in (1..=14).chain(16..=18) {
+        for number in (1..=14).chain(16..=19) {
             let met = |k: &u64| last_code(&single(Random::new(2, *k), number)) == number;
             assert!((0..12).filter(met).count() >= 6, "{number}");
         }
@@ -182,6 +229,14 @@ mod tests {
     fn changes_are_refused_for_each_cipher() {
         for index in 0..3 * CHANGES.len() * usize::from(LAST) {
             let (files, (_, fault)) = (change(Random::new(2, 0), index), CHANGES[index % CHANGES.len()]);
+            assert_eq!(last_code(&files), fault, "{index}");
+        }
+    }
+
+    #[test]
+    fn loads_and_starts_are_refused_for_each_cipher() {
+        for index in 0..3 * LOADS.len() * usize::from(LAST) {
+            let (files, (_, fault)) = (load(Random::new(2, 0), index), LOADS[index % LOADS.len()]);
             assert_eq!(last_code(&files), fault, "{index}");
         }
     }

@@ -1,5 +1,5 @@
 //! Well-formed lists: all ciphers, keys from the tray and from commands, frames of odd lengths on several lines in
-//! turn, changes of key, parks and resumes.
+//! turn, changes of key, parks and resumes, and lines that are loaded and started.
 
 use crate::builder::Builder;
 use crate::cipher::{by_number, LAST};
@@ -8,7 +8,7 @@ use crate::images;
 use crate::ledger::Fate;
 use crate::program::{Files, READ};
 use crate::random::Random;
-use crate::{changing, trays, zeros};
+use crate::{changing, loading, trays, zeros};
 
 /// A list of accepted commands.
 pub fn list(mut random: Random) -> Files {
@@ -73,12 +73,19 @@ pub fn steps(b: &mut Builder, count: usize) {
 }
 
 fn step(b: &mut Builder) {
-    let (idle, open) = (b.idle_lines(), b.open_lines());
+    let (idle, loaded, open) = (b.idle_lines(), b.loaded_lines(), b.open_lines());
     let choice = b.random.between(0, 99);
+    if !loaded.is_empty() && (idle.is_empty() && open.is_empty() || b.random.chance(15)) {
+        let line = b.random.pick(&loaded);
+        loading::start_or_close(b, line);
+        return;
+    }
     if open.is_empty() || (!idle.is_empty() && choice < 30) {
         let line = b.random.pick(&idle);
         if choice < 18 {
             resume(b, line);
+        } else if choice > 26 {
+            loading::load_line(b, line);
         } else {
             open_line(b, line);
         }
@@ -100,12 +107,16 @@ pub fn open_line(b: &mut Builder, line: u8) -> bool {
     open_with(b, line, cipher)
 }
 
-/// Opens an idle line with a cipher, from the tray where it has a key for it, or with a key of the command's own.
+/// Opens an idle line with a cipher, from the tray where it has a key for it, at times by a load and a start, or with a
+/// key of the command's own.
 pub fn open_with(b: &mut Builder, line: u8, cipher: u8) -> bool {
     let keys = trays::keys(b.tray(), cipher);
     if !keys.is_empty() && b.random.chance(60) {
         let number = b.random.pick(&keys);
         let iv = iv(&mut b.random, cipher);
+        if b.random.chance(25) {
+            return b.put(&command::load(line, cipher, number)) && b.put(&command::start(line, &iv));
+        }
         return b.put(&command::open_tray(line, cipher, number, &iv));
     }
     let (key, iv) = if cipher == 1 && b.random.chance(10) {

@@ -2,7 +2,7 @@
 //! whose conditions are to hold.
 
 use crate::cipher::LAST;
-use crate::command::{CHANGE_KEY, CRYPT, OPEN_OWN, OPEN_TRAY, PARK, RESUME};
+use crate::command::{CHANGE_KEY, CRYPT, LOAD, OPEN_OWN, OPEN_TRAY, PARK, RESUME, START};
 use crate::random::Random;
 use crate::{images, keys, spent, trays};
 
@@ -15,15 +15,17 @@ pub fn numbers(kind: u8) -> &'static [u8] {
         PARK => &[1, 2, 3, 6, 17, 12],
         RESUME => &[1, 2, 3, 5, 8, 14],
         CHANGE_KEY => &[1, 2, 3, 6, 17, 18, 9, 10, 7, 16],
+        LOAD => &[1, 2, 3, 4, 5, 9, 10, 7, 16],
+        START => &[1, 2, 3, 19, 7],
         _ => &[1, 2, 3, 6],
     }
 }
 
-/// Every kind of command with every two numbers that it can be refused with. On an idle line no change waits, and none
-/// does where the list's tray has a length that number 9 refuses.
+/// Every kind of command with every two numbers that it can be refused with. On a line that isn't open no change waits,
+/// and none does where the list's tray has a length that number 9 refuses.
 pub fn pairs() -> Vec<(u8, u8, u8)> {
     let mut all = Vec::new();
-    for kind in OPEN_TRAY..=CHANGE_KEY {
+    for kind in OPEN_TRAY..=START {
         for (i, &one) in numbers(kind).iter().enumerate() {
             let others = numbers(kind)[i + 1..].iter().map(|&other| (kind, one, other));
             all.extend(others.filter(|&(_, one, other)| ![(6, 17), (17, 9)].contains(&(one, other))));
@@ -36,8 +38,8 @@ pub fn pairs() -> Vec<(u8, u8, u8)> {
 pub struct Plan {
     pub kind: u8,
     pub faults: Vec<u8>,
-    /// The cipher of an open or of the line whose key is changed, unless a stray byte is planned that it leaves no place
-    /// for.
+    /// The cipher of an open, of a load or of the line that is started or whose key is changed, unless a stray byte is
+    /// planned that it leaves no place for.
     pub cipher: u8,
     /// For number 8: the image's fault.
     pub image: usize,
@@ -64,9 +66,10 @@ impl Plan {
         self.faults.contains(&number)
     }
 
-    /// Whether there is to be a stray byte in the IV; with number 10 there is no key that could have one.
+    /// Whether there is to be a stray byte in the IV; with number 10 there is no key that could have one, a start has none
+    /// at all, and a load has no IV.
     pub fn stray_iv(&self) -> bool {
-        self.has(7) && (self.in_iv || self.has(10))
+        self.has(7) && self.kind != LOAD && (self.kind == START || self.in_iv || self.has(10))
     }
 
     /// Whether there is to be a stray byte after the key.
@@ -91,7 +94,7 @@ impl Plan {
             trays::with_blank(random, self.place)
         } else if self.has(7) && from_tray {
             trays::with_stray(random, self.place)
-        } else if self.kind == CHANGE_KEY || self.has(17) {
+        } else if [CHANGE_KEY, START].contains(&self.kind) || self.has(17) {
             trays::useful(random)
         } else {
             trays::any(random)

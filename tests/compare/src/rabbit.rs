@@ -50,7 +50,7 @@ fn steps(s: &mut State, times: usize) {
 }
 
 /// The state before the first step: 16-bit parts of the key, by 7.3.2 step 2.
-fn load(key: &[u8]) -> State {
+pub fn load(key: &[u8]) -> State {
     let k = |i: usize| u32::from(key[2 * (i % 8)]) | (u32::from(key[2 * (i % 8) + 1]) << 8);
     let joined = |high: usize, low: usize| (k(high) << 16) | k(low);
     let even = |j: usize| j.is_multiple_of(2);
@@ -71,6 +71,20 @@ fn load(key: &[u8]) -> State {
     (0..8).map(x).chain((0..8).map(c)).chain([0]).collect()
 }
 
+/// The state of a key after step 3 of 7.3.2, which no IV is in.
+pub fn master(key: &[u8]) -> State {
+    let mut state = load(key);
+    steps(&mut state, 4);
+    state
+}
+
+/// S(0) of such a state and an IV, by steps 4 and 5 and the step to S1.
+pub fn started(mut state: State, iv: &[u8]) -> State {
+    add_iv(&mut state, iv);
+    steps(&mut state, 4 + 1);
+    state
+}
+
 /// Step 4 of 7.3.2: into counter j go X of index j + 4 and two 16-bit parts of the IV.
 fn add_iv(s: &mut State, iv: &[u8]) {
     let part = |i: usize| u32::from(iv[2 * i]) | (u32::from(iv[2 * i + 1]) << 8);
@@ -89,11 +103,24 @@ impl Cipher for Rabbit {
     }
 
     fn init(&self, key: &[u8], iv: &[u8]) -> State {
-        let mut state = load(key);
-        steps(&mut state, 4);
-        add_iv(&mut state, iv);
-        steps(&mut state, 4 + 1);
-        state
+        started(master(key), iv)
+    }
+
+    /// The bytes of the state that the key alone gives, in the key's stead.
+    fn load(&self, key: &[u8]) -> Vec<u8> {
+        self.state_bytes(&master(key))
+    }
+
+    fn kept(&self) -> usize {
+        self.shape().state
+    }
+
+    fn keeps(&self, kept: &[u8]) -> bool {
+        self.admits(&self.state_of(kept))
+    }
+
+    fn start(&self, kept: &[u8], iv: &[u8]) -> State {
+        started(self.state_of(kept), iv)
     }
 
     fn next(&self, state: &mut State) {

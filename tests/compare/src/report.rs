@@ -2,6 +2,7 @@
 
 use crate::changes::Change;
 use crate::ledger::Resume;
+use crate::loads::Load;
 use crate::subject::Tally;
 use std::io::{self, IsTerminal};
 
@@ -30,7 +31,7 @@ impl Progress {
 }
 
 /// The summary: named cases, lists, calls, bytes enciphered, how often each number was met, 255 only if it was, and how
-/// often each kind of resume and of change.
+/// often each kind of resume, of change and of load.
 pub fn summary(tally: &Tally) -> String {
     let mut text = format!("named cases {}\nlists {}\ncalls {}\n", tally.named, tally.lists, tally.calls);
     text.push_str(&format!("bytes enciphered {}\n", tally.bytes));
@@ -49,10 +50,14 @@ pub fn summary(tally: &Tally) -> String {
     for (name, count) in Change::NAMES.iter().zip(tally.changes) {
         text.push_str(&format!("{name}: {count}\n"));
     }
+    text.push_str("load met\n");
+    for (name, count) in Load::NAMES.iter().zip(tally.loads) {
+        text.push_str(&format!("{name}: {count}\n"));
+    }
     text
 }
 
-/// The numbers and the kinds of resume and of change that were never met. Number 15, 255 and an image from before the
+/// The numbers and the kinds of resume, of change and of load that were never met. Number 15, 255 and an image from before the
 /// list are asked for only if cards are handed in: a fresh card doesn't come to them.
 pub fn missing(tally: &Tally, handed_in: bool) -> Vec<String> {
     let numbers = (0..).zip(tally.codes).chain([(255, tally.damaged)]);
@@ -60,9 +65,11 @@ pub fn missing(tally: &Tally, handed_in: bool) -> Vec<String> {
     let resumes = Resume::NAMES.iter().enumerate().filter(|&(kind, _)| tally.resumes[kind] == 0);
     let resumes = resumes.filter(|&(kind, _)| handed_in || kind != Resume::Earlier as usize);
     let changes = Change::NAMES.iter().zip(tally.changes).filter(|&(_, count)| count == 0);
+    let loads = Load::NAMES.iter().zip(tally.loads).filter(|&(_, count)| count == 0);
     let numbers = numbers.map(|(number, _)| number.to_string());
     let resumes = resumes.map(|(_, name)| format!("resume: {name}"));
-    numbers.chain(resumes).chain(changes.map(|(name, _)| format!("change of key: {name}"))).collect()
+    let changes = changes.map(|(name, _)| format!("change of key: {name}"));
+    numbers.chain(resumes).chain(changes).chain(loads.map(|(name, _)| format!("load: {name}"))).collect()
 }
 
 /// The last line of a run in which nothing differed, for the part of the tests that it is: the named cases, if any, and
@@ -95,14 +102,22 @@ mod tests {
 
     #[test]
     fn what_was_never_met_is_told() {
-        let mut tally = Tally { codes: [1; 19], damaged: 1, resumes: [1; 8], changes: [1; 9], ..Tally::default() };
+        let (resumes, changes, loads) = ([1; 8], [1; 9], [1; 16]);
+        let mut tally = Tally { codes: [1; 20], damaged: 1, resumes, changes, loads, ..Tally::default() };
         assert!(missing(&tally, true).is_empty());
         tally.codes[14..].fill(0);
         (tally.damaged, tally.resumes[2], tally.resumes[7], tally.changes[1]) = (0, 0, 0, 0);
+        tally.loads[..3].fill(0);
         let (zero, earlier) = ("resume: 14, number 0", "resume: 14, from before the list");
         let change = "change of key: due within a crypt";
-        assert_eq!(missing(&tally, false), ["14", "16", "17", "18", zero, change]);
-        assert_eq!(missing(&tally, true), ["14", "15", "16", "17", "18", "255", zero, earlier, change]);
+        let loads = ["load: loaded", "load: started by the next call", "load: started after other calls"];
+        let fresh = [&["14", "16", "17", "18", "19", zero, change][..], &loads].concat();
+        let other = [&["14", "15", "16", "17", "18", "19", "255", zero, earlier, change][..], &loads].concat();
+        assert_eq!((missing(&tally, false), missing(&tally, true)), (owned(&fresh), owned(&other)));
+    }
+
+    fn owned(texts: &[&str]) -> Vec<String> {
+        texts.iter().map(|text| text.to_string()).collect()
     }
 
     #[test]

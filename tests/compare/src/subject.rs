@@ -4,23 +4,25 @@
 
 use crate::changes::{Change, Changes};
 use crate::ledger::{Ledger, Resume};
+use crate::loads::{Load, Loads};
 use crate::machine::Answer;
 use crate::named::{self, Case};
 use crate::report::Progress;
 
 /// What lists came to by the second implementation: named cases, lists of the seed, calls of both, the bytes that their
 /// crypts took, how often each code was met, 255 for a damaged card apart from the others, and how often each kind of
-/// resume and of change on a card whose parks and lines are known.
+/// resume, of change and of load on a card whose parks and lines are known.
 #[derive(Clone, Debug, Default, PartialEq, Eq)]
 pub struct Tally {
     pub named: u64,
     pub lists: u64,
     pub calls: u64,
     pub bytes: u64,
-    pub codes: [u64; 19],
+    pub codes: [u64; 20],
     pub damaged: u64,
     pub resumes: [u64; Resume::NAMES.len()],
     pub changes: [u64; Change::NAMES.len()],
+    pub loads: [u64; Load::NAMES.len()],
 }
 
 impl Tally {
@@ -47,14 +49,21 @@ impl Tally {
         }
     }
 
+    /// Counts what a call of such a list was, if it is about a load.
+    pub fn note_load(&mut self, loads: &mut Loads, command: &[u8], answer: &Answer) {
+        if let Some(load) = loads.note(command, answer) {
+            self.loads[load as usize] += 1;
+        }
+    }
+
     pub fn add(&mut self, other: &Tally) {
         self.named += other.named;
         self.lists += other.lists;
         self.calls += other.calls;
         self.bytes += other.bytes;
         self.damaged += other.damaged;
-        let sums = self.codes.iter_mut().chain(&mut self.resumes).chain(&mut self.changes);
-        let counts = other.codes.iter().chain(&other.resumes).chain(&other.changes);
+        let sums = self.codes.iter_mut().chain(&mut self.resumes).chain(&mut self.changes).chain(&mut self.loads);
+        let counts = other.codes.iter().chain(&other.resumes).chain(&other.changes).chain(&other.loads);
         for (sum, count) in sums.zip(counts) {
             *sum += count;
         }

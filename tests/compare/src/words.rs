@@ -1,12 +1,13 @@
-//! The card as words that a program in C or Rust keeps: eight lines alike, each the mode (1 of an open line), the
-//! cipher's number, the position in two words, the high one first, and the state bytes as big-endian words with zeros
-//! after them, then in the same form the position of the change that waits and its stream's S(0), all zeros where none
-//! does; then the count of the parks made, and for each line the number that is held. An idle line is all zeros, whether
-//! a number is held for it or not.
+//! The card as words that a program in C or Rust keeps: eight lines alike, each the mode (1 of an open line, 2 of a
+//! loaded one), the cipher's number, the position in two words, the high one first, and the state bytes as big-endian
+//! words with zeros after them, then in the same form the position of the change that waits and its stream's S(0), all
+//! zeros where none does; then the count of the parks made, and for each line the number that is held. A loaded line is
+//! at position 0, and in the state's place it has what it keeps: its key's bytes, or of Rabbit the state that the key
+//! alone gives. An idle line is all zeros, whether a number is held for it or not.
 
 use crate::cipher;
 use crate::command::padded;
-use crate::machine::{Machine, Seen, SeenChange};
+use crate::machine::{Machine, Seen, SeenChange, SeenLoad};
 use crate::parks::Parks;
 
 /// Where the state stands in a line, and how many words it has.
@@ -30,7 +31,8 @@ pub const CARD: usize = HELD + 8;
 
 /// The words of a card with the machine's lines and parks.
 pub fn of(machine: &Machine) -> Vec<u32> {
-    let lines = (0..8).flat_map(|line| machine.seen(line).map_or(vec![0; LINE], open_line));
+    let words = |line| machine.seen(line).map(open_line).or(machine.loaded(line).map(loaded_line));
+    let lines = (0..8).flat_map(|line| words(line).unwrap_or(vec![0; LINE]));
     let parks = machine.parks();
     lines.chain([parks.made()]).chain(parks.held()).collect()
 }
@@ -41,6 +43,10 @@ fn open_line(seen: Seen) -> Vec<u32> {
     [&head, &place_in(seen.position, &seen.state)[..], &place_in(waiting.due, &waiting.start)].concat()
 }
 
+fn loaded_line(seen: SeenLoad) -> Vec<u32> {
+    [&[2, u32::from(seen.cipher)], &place_in(0, &seen.kept)[..], &place_in(0, &[])].concat()
+}
+
 /// A place in a stream: its position and the bytes of a state.
 fn place_in(position: u64, state: &[u8]) -> Vec<u32> {
     cipher::words(&[&position.to_be_bytes(), &padded(state, 4 * STATE_WORDS)[..]].concat())
@@ -48,7 +54,7 @@ fn place_in(position: u64, state: &[u8]) -> Vec<u32> {
 
 /// The machine with the lines and parks that the words of a card hold; nothing where they are no card, which is what
 /// 255 says. An open line is judged as an image with its cipher, position and state, and a change that waits as one with
-/// the line's cipher, the change's position and its stream's S(0).
+/// the line's cipher, the change's position and its stream's S(0); a loaded line by the key or the state that it keeps.
 pub fn machine(card: &[u32]) -> Option<Machine> {
     let card: &[u32; CARD] = card.try_into().ok()?;
     let held: [u32; 8] = card[HELD..].try_into().ok()?;
@@ -57,6 +63,7 @@ pub fn machine(card: &[u32]) -> Option<Machine> {
         let taken = match line[0] {
             0 => zero(line),
             1 => opened(&mut machine, number, line),
+            2 => loaded(&mut machine, number, line),
             _ => false,
         };
         if !taken {
@@ -71,6 +78,18 @@ fn opened(machine: &mut Machine, number: u8, line: &[u32]) -> bool {
     let (own, waiting) = line[2..].split_at(DUE - 2);
     let open = image(line[1], own).is_some_and(|image| machine.set(number, &image));
     open && (zero(waiting) || image(line[1], waiting).is_some_and(|image| machine.wait(number, &image)))
+}
+
+/// The same for the words of a loaded one, whose position is 0 and where nothing waits.
+fn loaded(machine: &mut Machine, number: u8, line: &[u32]) -> bool {
+    let (position, kept, waiting) = (&line[2..STATE], &line[STATE..DUE], &line[DUE..]);
+    let Some(cipher) = u8::try_from(line[1]).ok().and_then(cipher::by_number) else {
+        return false;
+    };
+    let bytes: Vec<u8> = kept.iter().flat_map(|word| word.to_be_bytes()).collect();
+    let (own, beyond) = bytes.split_at(cipher.kept());
+    let fits = zero(position) && zero(waiting) && beyond.iter().all(|&byte| byte == 0);
+    fits && machine.set_loaded(number, cipher.shape().number, own)
 }
 
 fn zero(words: &[u32]) -> bool {
@@ -195,6 +214,55 @@ mod tests {
         assert!(
             with(&[(2, 15), (3, u32::MAX), (high, 16), (low, 0)]) && !with(&[(2, 16), (3, 0), (high, 16), (low, 0)])
         );
+    }
+
+    #[test]
+    fn a_loaded_line_stands_in_its_place() {
+        let mut machine = Machine::fresh();
+        let key: Vec<u8> = (1..=32).collect();
+        for (line, cipher) in (1..).zip(1..=cipher::LAST) {
+            let code = machine.call(&command::load(line, cipher, 0), &key[..32], &[], &mut []).code;
+            assert_eq!(code, if cipher == 4 { 0 } else { 7 });
+            let tray = padded(&key[..16], 32);
+            assert_eq!(
+                machine.call(&command::load(line, cipher, 0), &tray, &[], &mut []).code,
+                if cipher == 4 { 5 } else { 0 }
+            );
+        }
+        let words = of(&machine);
+        let line = |number: usize| &words[LINE * number..LINE * (number + 1)];
+        assert!(zero(line(0)) && zero(line(7)) && zero(&words[COUNT..]));
+        for (number, own) in [(1, 4), (2, 17), (3, 4), (4, 8), (5, 4), (6, 4)] {
+            assert_eq!(line(number)[..STATE], [2, number as u32, 0, 0]);
+            assert!(zero(&line(number)[STATE + own..]));
+            let bytes: Vec<u32> = cipher::words(&key)[..own.min(8)].to_vec();
+            assert_eq!(line(number)[STATE..STATE + own.min(8)] == bytes, number != 2);
+        }
+        let master = crate::rabbit::master(&key[..16]);
+        assert_eq!(line(2)[STATE..STATE + 17], [&master[..16], &[master[16] << 24]].concat());
+        assert_eq!(super::machine(&words).as_ref().map(of), Some(words));
+    }
+
+    #[test]
+    fn a_loaded_line_keeps_a_key_or_a_state_and_nothing_else() {
+        let with = |cipher: u32, count: usize, changes: &[(usize, u32)]| {
+            let mut card = vec![0; CARD];
+            (card[3 * LINE], card[3 * LINE + 1]) = (2, cipher);
+            card[3 * LINE + STATE..][..count].fill(1);
+            changes.iter().for_each(|&(place, word)| card[3 * LINE + place] = word);
+            super::machine(&card).is_some()
+        };
+        for (cipher, own) in [(1, 4), (3, 4), (4, 8), (5, 4), (6, 4)] {
+            assert!(with(cipher, own, &[]) && !with(cipher, 0, &[]), "{cipher}");
+            assert!(with(cipher, 0, &[(STATE + own - 1, 1 << 31)]), "{cipher}");
+            assert!((STATE + own..LINE).chain([2, 3]).all(|place| !with(cipher, own, &[(place, 1)])), "{cipher}");
+        }
+        let carry = STATE + 16;
+        assert!(with(2, 0, &[]) && with(2, 16, &[]) && with(2, 0, &[(carry, 1 << 24)]));
+        assert!([1, 2 << 24, (1 << 24) + 1, u32::MAX].iter().all(|&word| !with(2, 16, &[(carry, word)])));
+        assert!((carry + 1..LINE).chain([2, 3]).all(|place| !with(2, 16, &[(place, 1)])));
+        assert!([0, 7, 257].iter().all(|&cipher| !with(cipher, 4, &[])));
+        assert!([3, 4, 256, 258].iter().all(|&mode| !with(1, 4, &[(0, mode)])));
     }
 
     #[test]

@@ -3,6 +3,7 @@
 mod blank;
 mod changes;
 mod left;
+mod loads;
 mod twist;
 
 use crate::calls::{CallByCall, Card};
@@ -33,8 +34,8 @@ impl Card for Wrong {
 
 /// The wrong cards; with `after` also those that show only after a refusal, which is the end of a named case.
 fn all(after: bool) -> impl Iterator<Item = CallByCall<Wrong>> {
-    let cards = blank::cards().chain(changes::cards()).chain(left::cards());
-    let more = changes::cards_left().filter(move |_| after);
+    let cards = blank::cards().chain(changes::cards()).chain(left::cards()).chain(loads::cards());
+    let more = changes::cards_left().chain(loads::cards_left()).filter(move |_| after);
     cards.chain(more).map(|card| CallByCall { card: Wrong(card) })
 }
 

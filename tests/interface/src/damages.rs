@@ -1,4 +1,4 @@
-//! Every kind of damage that 255 names, but those of a change that waits and of the parks. Whatever else is wrong with a
+//! Every kind of damage that 255 names, but those of a change that waits, of a loaded line and of the parks. Whatever else is wrong with a
 //! call, its code is 255, and nothing changes.
 
 use crate::base::{open_lines, IDLE, MUGI, RABBIT, ZUC};
@@ -16,10 +16,10 @@ pub fn hold() -> Result<Tally, String> {
 }
 
 /// The places of a line's head.
-const MODE: usize = 0;
+pub const MODE: usize = 0;
 pub const CIPHER: usize = 1;
-const HIGH: usize = 2;
-const LOW: usize = 3;
+pub const HIGH: usize = 2;
+pub const LOW: usize = 3;
 
 /// The lines that are open, with their ciphers.
 fn open() -> impl Iterator<Item = (u8, u8)> {
@@ -31,7 +31,7 @@ pub fn each(name: &str, what: u8, place: usize, words: &[u32]) -> Vec<Change> {
     words.iter().map(|&word| Change::new(format!("{name} {word:x}"), what, &[(place, word)])).collect()
 }
 
-/// An open line whose mode is idle, or none; 101 has the mode of an open line for its lowest byte.
+/// An open line whose mode is idle, loaded, or none; 101 has the mode of an open line for its lowest byte.
 fn modes() -> Vec<Change> {
     let of = |(what, cipher)| {
         each(&format!("open line, cipher {cipher}, mode"), what, MODE, &[0, 2, 3, 255, 256, 0x101, 1 << 31, u32::MAX])

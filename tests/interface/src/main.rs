@@ -16,6 +16,8 @@ mod held;
 mod lengths;
 mod lent;
 mod linked;
+mod loaded;
+mod loads;
 mod long;
 mod numbers;
 mod room;
@@ -65,10 +67,12 @@ fn named() -> Result<Tally, String> {
     let groups = [
         ("cards with a damaged line", damages::hold()?),
         ("cards with a damaged change that waits", waiting::damaged()?),
+        ("cards with a damaged loaded line", loaded::damaged()?),
         ("cards with a held number above the count", numbers::above()?),
         ("cards with a number held twice", numbers::twice()?),
         ("cards that are just well formed", edges::hold()?),
         ("cards with a change that waits", waiting::well_formed()?),
+        ("cards with a loaded line", loaded::well_formed()?),
         ("long frames with a change in them", long::hold()?),
         ("other lengths of card and counts", lengths::hold()?),
         ("pairs of lists that are alike but for data, keys and IVs", alike::hold()?),

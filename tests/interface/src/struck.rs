@@ -4,6 +4,7 @@
 
 use crate::held;
 use crate::lent::COUNTS;
+use compare::cipher::LAST;
 use compare::machine::END;
 use compare::mixed;
 use compare::random::Random;
@@ -35,10 +36,11 @@ pub fn hold(seed: u64, number: u64) -> Result<Tally, String> {
     Ok(tally)
 }
 
-/// Changes a card: its length, its lines' order, its parks, a change that waits, or one to three of its words.
+/// Changes a card: its length, its lines' order, its parks, a change that waits, a loaded line, or one to three of its
+/// words.
 fn strike(random: &mut Random, card: &mut Vec<u32>) {
     let (one, other) = (random.size(0, 7), random.size(0, 7));
-    match random.between(0, 30) {
+    match random.between(0, 35) {
         0 => card.truncate(random.size(0, CARD - 1)),
         1 => card.resize(CARD + random.size(1, LINE), 0),
         2 => card.copy_within(LINE * one..LINE * (one + 1), LINE * other),
@@ -53,6 +55,7 @@ fn strike(random: &mut Random, card: &mut Vec<u32>) {
             }
         }
         10..=15 => wait(random, &mut card[LINE * one..LINE * (one + 1)]),
+        16..=21 => load(random, &mut card[LINE * one..LINE * (one + 1)]),
         _ => {
             for _ in 0..random.size(1, 3) {
                 let place = place(random);
@@ -72,6 +75,32 @@ fn wait(random: &mut Random, line: &mut [u32]) {
     let (near, any) = (position + random.between(1, 60), random.draw());
     let due = random.pick(&[near, near, near, near, END, END + 1, position, position.wrapping_sub(1), any]);
     (line[DUE], line[DUE + 1]) = ((due >> 32) as u32, due as u32);
+}
+
+/// Makes a line a loaded one, if it isn't, with any words kept, and changes up to two words of it: mostly one of what it
+/// keeps or behind that, at times one of its head or of a change.
+fn load(random: &mut Random, line: &mut [u32]) {
+    if line[0] != 2 {
+        let cipher = random.between(1, LAST.into()) as u32;
+        let count = match cipher {
+            2 => 16,
+            4 => 8,
+            _ => 4,
+        };
+        line.fill(0);
+        (line[0], line[1]) = (2, cipher);
+        line[STATE..STATE + count].fill_with(|| random.draw() as u32);
+    }
+    for _ in 0..random.size(0, 2) {
+        let place = match random.between(0, 9) {
+            0 => random.size(1, STATE - 1),
+            1 => random.size(DUE, LINE - 1),
+            2 | 3 => STATE + 16,
+            4..=6 => random.size(STATE, STATE + 3),
+            _ => random.size(STATE, DUE - 1),
+        };
+        line[place] = word(random, line[place]);
+    }
 }
 
 /// The place of a word: a line's mode, its cipher, a half of its position or of a change's, or a word of its state or of

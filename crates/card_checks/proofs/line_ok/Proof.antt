@@ -1,15 +1,17 @@
--- `card_checks::line_ok` meets its contract: of an open line its state and its change are tested, and another is idle, its words all zero.
+-- `card_checks::line_ok` meets its contract: of an open line its state and its change are tested, an idle one's words are all zero, and of a loaded one it is tested what it keeps.
 -- Assumes nothing.
 use mathlib.Core.Path.{_≡_, ap, ap₂, sym, _∙_}
 use mathlib.Core.Bool.{Bool, true, false}
 use mathlib.Core.List.{List}
 use Prim.Native.Nat.{ℕ}
-use lib.ListN.{take, drop}
+use native.Mathlib.Omega.{arith}
+use lib.ListN.{length, getD, take, drop}
 use borrow.Author.Tests.{not-true, not-false}
-use Rattle.card_sizes.specs.Sizes.{stateWords, headWords}
+use Rattle.card_sizes.specs.Sizes.{stateWords, headWords, lineSize}
 use Rattle.words.specs.Tests.{both}
 use Rattle.machine.specs.Machine.{stateOk, changeOk, imageOk, openOk, lineOk}
-use Rattle.card_line.specs.Words.{lineIn}
+use Rattle.ciphers.specs.Table.{allZero}
+use Rattle.card_line.specs.Words.{lineIn, lineWords}
 use Rattle.card_line.proofs.Lines.{state-slice, line-held, zero-line, no-line, open-line}
 use Rattle.card_checks.proofs.Walks.{no-more}
 use borrow.Author.Needs.{needs}
@@ -24,8 +26,8 @@ first p = p .before .before .before .before
 abbrev start : tie.Then1 → tie.Start
 start t = t .before .before .before
 
-abbrev idle : tie.After-words-zero → tie.Start
-idle z = z .before .before .before .before
+abbrev other : tie.Else1 → tie.Start
+other e = e .before .before .before
 
 -- ---- an open line
 
@@ -62,21 +64,30 @@ returns-2 c =
     ∙ sym (is-ok p true (not-false _ (c .before .if2 .left))) in
     (e, λ y. line-held ws (s .pre) (q .position-of .ensures .1) (c .change-ok .ensures .1) (sym e ∙ y))
 
--- ---- another
+-- ---- an idle one
+
+idle-line : (ws : List ℕ) → length ws ≡ lineSize → getD ws 0 0 ≡ 0 → (b : Bool) → b ≡ allZero ws → (b ≡ lineOk (lineIn ws)) × (b ≡ true → lineWords (lineIn ws) ≡ ws)
+idle-line ws n m true e = let z = zero-line ws n (sym e) in (sym (z .0), λ _. z .1)
+idle-line ws n m false e = (no-line ws n (λ _. sym e) (λ q. omega (arith, m, q)) (λ q. omega (arith, m, q)), no-more)
 
 returns-3 : tie.Need-returns-3
-returns-3 c =
-    let s = idle (c .before) in
-    let z = zero-line (s .args .line .now) (s .pre) (sym (c .before .words-zero .ensures) ∙ c .if3 .taken) in
-    (sym (z .0), λ _. z .1)
+returns-3 c = let t = c .before in let s = other (t .before) in idle-line (s .args .line .now) (s .pre) (t .if3 .taken) _ (c .words-zero .ensures)
+
+-- ---- a loaded one, and another
+
+loaded-ok-requires : tie.Need-loaded-ok-requires
+loaded-ok-requires c κs = (other (c .before .before) .pre, c .if4 .taken)
 
 returns-4 : tie.Need-returns-4
-returns-4 c =
-    let e = c .before .before in
-    let s = idle (c .before) in
-    (no-line (s .args .line .now) (s .pre) (sym (c .before .words-zero .ensures) ∙ c .if3 .left) (e .if1 .left), no-more)
+returns-4 c = c .loaded-ok .ensures
+
+returns-5 : tie.Need-returns-5
+returns-5 c =
+    let e = c .before in
+    let s = other (e .before) in
+    (no-line (s .args .line .now) (s .pre) (λ o. absurd (e .if3 .left o)) (e .before .if1 .left) (c .if4 .left), no-more)
 
 pub line-ok-spec : {M : Type 1} → statement M
 line-ok-spec =
     tie.close (tie.spec (search needs) (λ c κs. search needs) (λ c κs. search needs) (search needs) (search needs) (search needs) (λ c κs. search needs) returns (λ c κs. search needs) returns-2
-    (λ c κs. search needs) returns-3 returns-4)
+    (λ c κs. search needs) returns-3 loaded-ok-requires returns-4 returns-5)

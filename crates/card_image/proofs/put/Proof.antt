@@ -8,7 +8,7 @@ use lib.ListN.{length, take, drop, set}
 use borrow.Rule.Slice.PartMut.{putMid}
 use Rattle.words.specs.Strings.{bytesOf}
 use Rattle.card_sizes.specs.Sizes.{imageLength}
-use Rattle.machine.specs.Fields.{spelt}
+use Rattle.ciphers.specs.States.{spelt}
 use Rattle.machine.specs.Machine.{imageOf}
 use Rattle.card_line.specs.Words.{lineIn}
 use Rattle.buffer.proofs.Fronts.{Front, front-length, front-room, front-within}

@@ -18,7 +18,7 @@ key-code-requires : tie.Need-key-code-requires
 key-code-requires c κs =
     let s = start c in
     let a = s .args in
-    (ap length (c .key-field .ensures) ∙ field-full (a .at) (pick (a .own) (a .command .now) (a .tray .now)) (s .pre .0), s .pre .1)
+    ap length (c .key-field .ensures) ∙ field-full (a .at) (pick (a .own) (a .command .now) (a .tray .now)) (s .pre)
 
 returns : tie.Need-returns
 returns c =

@@ -32,10 +32,10 @@ field p = p .key-field .result .now
 whole : (p : tie.After-key-field) → length (field p) ≡ keyLength
 whole p =
     let a = start p .args in
-    ap length (p .key-field .ensures) ∙ field-full (a .at) (pick (a .own) (a .command .now) (a .tray .now)) (start p .pre .0)
+    ap length (p .key-field .ensures) ∙ field-full (a .at) (pick (a .own) (a .command .now) (a .tray .now)) (start p .pre)
 
 key-code-requires : tie.Need-key-code-requires
-key-code-requires c κs = (whole c, start c .pre .1)
+key-code-requires c κs = whole c
 
 returns : tie.Need-returns
 returns c =

@@ -21,7 +21,7 @@ returns c =
     let z = cleared p in
     let s = start z in
     let a = s .args in
-    head-state (a .cipher) (a .n) (a .state .now) _ _ _ (z .clear .ensures) (s .pre .1) (p .put-words .ensures) (h .put-head .ensures)
+    head-state (a .mode) (a .cipher) (a .n) (a .state .now) _ _ _ (z .clear .ensures) (s .pre .1) (p .put-words .ensures) (h .put-head .ensures)
 
 pub put-words-spec : {M : Type 1} → statement M
 put-words-spec =

@@ -1,12 +1,11 @@
 -- `card_perform::perform` meets its contract: each command's own function does what its decision says.
 -- Assumes nothing.
-use Prim.Native.Nat.{ℕ, _<_, _≤_}
+use Prim.Native.Nat.{ℕ}
 use mathlib.Core.List.{List}
 use mathlib.Core.Path.{_≡_, ap, sym, subst, _∙_}
-use lib.ListN.{length}
 use Rattle.command.specs.declared.Command.{Command}
 use Rattle.command.specs.declared.Decoded.the-variants.{Run}
-use Rattle.command.specs.Decode.{decodeOf, lineOf, lengthOf}
+use Rattle.command.specs.Decode.{decodeOf, lengthOf}
 use Rattle.command.proofs.Reading.{Has, read-in, run-has}
 use Rattle.machine.specs.Machine.{Call}
 use Rattle.card_outcome.specs.declared.Outcome.{Outcome}
@@ -37,6 +36,12 @@ start-from-k6 c = c .before .before .before .before .before .before .before
 
 abbrev start-from-k7 : tie.After-k7 → tie.Start
 start-from-k7 c = c .before .before .before .before .before .before .before
+
+abbrev start-from-k8 : tie.After-k8 → tie.Start
+start-from-k8 c = c .before .before .before .before .before .before .before
+
+abbrev start-from-k9 : tie.After-k9 → tie.Start
+start-from-k9 c = c .before .before .before .before .before .before .before
 
 abbrev after-run-crypt : tie.After-slice-known6 → tie.After-run-crypt
 after-run-crypt c = c .before .before .before .before
@@ -108,6 +113,19 @@ run-change-requires c κs =
     let s = start-from-k7 p in
     let h = has s (p .k7 .given .1) in ((s .pre .0, h .line), h .whole)
 
+run-load-requires : tie.Need-run-load-requires
+run-load-requires c κs =
+    let p = c .before .before in
+    let s = start-from-k8 p in
+    (s .pre .0, has s (p .k8 .given .1) .line)
+
+run-start-requires : tie.Need-run-start-requires
+unfolding lengthOf
+run-start-requires c κs =
+    let p = c .before .before in
+    let s = start-from-k9 p in
+    let h = has s (p .k9 .given .1) in ((s .pre .0, h .line), h .whole)
+
 returns : tie.Need-returns
 returns c =
     let q = c .before .before in
@@ -157,9 +175,23 @@ returns-7 c =
     let s = start-from-k7 p in
     found (s .args .card .now) (lent s) (p .k7 .given .1) (q .run-change .ensures (s .args .«data» .now) (s .args .out .now))
 
+returns-8 : tie.Need-returns-8
+returns-8 c =
+    let q = c .before .before in
+    let p = q .before .before .before in
+    let s = start-from-k8 p in
+    found (s .args .card .now) (lent s) (p .k8 .given .1) (q .run-load .ensures (s .args .command .now) (s .args .«data» .now) (s .args .out .now))
+
+returns-9 : tie.Need-returns-9
+returns-9 c =
+    let q = c .before .before in
+    let p = q .before .before .before in
+    let s = start-from-k9 p in
+    found (s .args .card .now) (lent s) (p .k9 .given .1) (q .run-start .ensures (s .args .tray .now) (s .args .«data» .now) (s .args .out .now))
+
 pub perform-spec : {M : Type 1} → statement M
 perform-spec =
     tie.close
     (tie.spec (λ c. search needs) run-tray-requires (λ c. search needs) run-own-requires (λ c. search needs) run-crypt-requires (λ c. search needs) run-park-requires
-    (λ c. search needs) run-resume-requires (λ c. search needs) run-close-requires (λ c. search needs) run-change-requires (λ c. search needs) returns (λ c. search needs) returns-2 (λ c. search needs) (λ c. search needs) returns-3
-    (λ c. search needs) (λ c. search needs) returns-4 (λ c. search needs) returns-5 (λ c. search needs) returns-6 (λ c. search needs) returns-7)
+    (λ c. search needs) run-resume-requires (λ c. search needs) run-close-requires (λ c. search needs) run-change-requires (λ c. search needs) run-load-requires (λ c. search needs) run-start-requires (λ c. search needs) returns (λ c. search needs) returns-2 (λ c. search needs) (λ c. search needs) returns-3
+    (λ c. search needs) (λ c. search needs) returns-4 (λ c. search needs) returns-5 (λ c. search needs) returns-6 (λ c. search needs) returns-7 (λ c. search needs) returns-8 (λ c. search needs) returns-9)

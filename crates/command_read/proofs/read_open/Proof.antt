@@ -25,9 +25,17 @@ returns-2 c = simp (sym (after-read-cipher c .read-cipher .ensures) ∙ c .befor
 
 returns-3 : tie.Need-returns-3
 unfolding openOf
-returns-3 c = simp (sym (after-read-cipher-from-else1 c .read-cipher .ensures) ∙ c .before .before .cipher .given .1, ne-eqb _ _ (c .if1 .left))
+returns-3 c =
+    let e = c .before in
+    simp (sym (after-read-cipher-from-else1 e .read-cipher .ensures) ∙ e .before .before .cipher .given .1, ne-eqb _ _ (e .if1 .left), eq-eqb _ _ (c .if2 .taken))
+
+returns-4 : tie.Need-returns-4
+unfolding openOf
+returns-4 c =
+    let e = c .before in
+    simp (sym (after-read-cipher-from-else1 e .read-cipher .ensures) ∙ e .before .before .cipher .given .1, ne-eqb _ _ (e .if1 .left), ne-eqb _ _ (c .if2 .left))
 
 pub read-open-spec : {M : Type 1} → statement M
 read-open-spec =
     tie.close (tie.spec (search needs) (search needs) (search needs) (λ c κs. search needs) (search needs)
-    (search needs) returns returns-2 returns-3)
+    (search needs) returns returns-2 returns-3 returns-4)

@@ -1,5 +1,5 @@
-//! Document 01's example for each cipher, and annex C: every keystream by both ways to open a line, but for those of a
-//! key of zeros, which both refuse; and every sample state by a park.
+//! Document 01's example for each cipher, and annex C: every keystream by both ways to open a line and by a load and a
+//! start, but for those of a key of zeros, which all refuse; and every sample state by a park.
 
 use super::published::{name, unit, Published};
 use super::{altered, Case};
@@ -47,22 +47,23 @@ fn keystream(number: usize, row: &Row) -> Vec<Case> {
     let name = format!("keystream {number} of annex C, {}", row.clause);
     match Published::of(row) {
         Some(p) if p.blank() => blank(&name, &p).into(),
-        Some(p) => vec![by_both(name, &p)],
+        Some(p) => vec![by_all(name, &p)],
         None => Vec::new(),
     }
 }
 
 /// A keystream of any other key.
-fn by_both(name: String, p: &Published) -> Case {
+fn by_all(name: String, p: &Published) -> Case {
     let count = p.stream.len() as u16;
-    let commands = [p.open(0), command::crypt(0, count), p.open_tray(1, 0), command::crypt(1, count)];
-    let case = Case::new(name, &commands, "end 4 0").tray(p.key.clone());
-    case.data(vec![0; 2 * p.stream.len()]).out(&p.stream.repeat(2))
+    let opened = [p.open(0), command::crypt(0, count), p.open_tray(1, 0), command::crypt(1, count)];
+    let started = [p.load(2, 0), p.start(2), command::crypt(2, count)];
+    let case = Case::new(name, &[&opened[..], &started].concat(), "end 7 0").tray(p.key.clone());
+    case.data(vec![0; 3 * p.stream.len()]).out(&p.stream.repeat(3))
 }
 
-/// A keystream of a key of zeros: both opens refuse the key; an image with S(0), which is no key, goes on with the
+/// A keystream of a key of zeros: both opens and a load refuse the key; an image with S(0), which is no key, goes on with the
 /// keystream.
-fn blank(name: &str, p: &Published) -> [Case; 3] {
+fn blank(name: &str, p: &Published) -> [Case; 4] {
     let (count, image) = (p.stream.len(), images::image(p.cipher, 0, 1, &start(p)));
     let resumed = [altered::resumed(1, &image), vec![command::crypt(1, count as u16)]].concat();
     let refused = |how: &str, open: Vec<u8>| Case::new(format!("{name}, {how}: number 16"), &[open], "end 0 16");
@@ -70,6 +71,7 @@ fn blank(name: &str, p: &Published) -> [Case; 3] {
     [
         refused("the command's own key", p.open(0)),
         refused("the tray's key", p.open_tray(1, 0)).tray(p.key.clone()),
+        refused("a load", p.load(2, 0)).tray(p.key.clone()),
         Case::new(format!("{name}, from S(0)"), &resumed, "end 4 0").data(vec![0; count]).out(&out),
     ]
 }

@@ -1,5 +1,5 @@
-//! Keystreams of annex C for the cases: two of 32 bytes or more for each cipher, and what opens a line with them or
-//! changes a line's key to theirs.
+//! Keystreams of annex C for the cases: two of 32 bytes or more for each cipher, and what opens a line with them,
+//! loads and starts it, or changes a line's key to theirs.
 
 use crate::annex::{self, Row};
 use crate::cipher::{by_number, LAST};
@@ -30,6 +30,16 @@ impl Published {
     /// Command 01 for the line, with the key of this number.
     pub fn open_tray(&self, line: u8, number: u8) -> Vec<u8> {
         command::open_tray(line, self.cipher, number, &self.iv)
+    }
+
+    /// Command 08 for the line, with the key of this number.
+    pub fn load(&self, line: u8, number: u8) -> Vec<u8> {
+        command::load(line, self.cipher, number)
+    }
+
+    /// Command 09 for the line.
+    pub fn start(&self, line: u8) -> Vec<u8> {
+        command::start(line, &self.iv)
     }
 
     /// Command 07 for the line, with the key of this number and from this position on.

@@ -1,6 +1,7 @@
-//! A case for each refusal, 1 to 14 and 16 to 18, and the same for each command that can meet it. Number 8 has its
-//! conditions in `images`, 12 its limits in `full`, 13 in `positions`, 14 in `numbers`, 16 in `blank`, and 17, 18 and all
-//! that refuses a change of key in `waiting`. The program never calls with an empty command, and doesn't come to as many
+//! A case for each refusal, 1 to 14 and 16 to 19, and the same for each command that can meet it. Number 8 has its
+//! conditions in `images`, 12 its limits in `full`, 13 in `positions`, 14 in `numbers`, 16 in `blank`, 17, 18 and all that
+//! refuses a change of key in `waiting`, and 19 and all that refuses a load, a start or a command on a loaded line in
+//! `loads`. The program never calls with an empty command, and doesn't come to as many
 //! parks as number 15 needs.
 
 use super::published::name;
@@ -20,7 +21,7 @@ pub fn open(line: u8) -> Vec<u8> {
 }
 
 /// One of each command for a line, operands 0 but for the cipher, which is 4, and the key, whose bytes are 1.
-pub fn each(line: u8) -> [Vec<u8>; 7] {
+pub fn each(line: u8) -> [Vec<u8>; 9] {
     [
         command::open_tray(line, 4, 0, &[0; 16]),
         command::open_own(line, 4, &[1; RECORD], &[0; 16]),
@@ -29,6 +30,8 @@ pub fn each(line: u8) -> [Vec<u8>; 7] {
         command::resume(line, &padded(&[4], IMAGE)),
         command::close(line),
         command::change_key(line, 0, &[0; 16], 0),
+        command::load(line, 4, 0),
+        command::start(line, &[0; 16]),
     ]
 }
 
@@ -54,6 +57,7 @@ const FOURTEEN: &str = "call code cmd data out\n1 0 51 0 0\n2 0 2 0 165\n3 0 167
 const SIXTEEN: &str = "call code cmd data out\n1 16 0 0 0\nend 0 16\n";
 const SEVENTEEN: &str = "call code cmd data out\n1 0 51 0 0\n2 0 27 0 0\n3 17 0 0 0\nend 2 17\n";
 const EIGHTEEN: &str = "call code cmd data out\n1 0 51 0 0\n2 0 27 0 0\n3 18 0 0 0\nend 2 18\n";
+const NINETEEN: &str = "call code cmd data out\n1 0 4 0 0\n2 0 18 0 0\n3 19 0 0 0\nend 2 19\n";
 
 /// One case for each number, with its table; that of 12 is long.
 fn numbers() -> Vec<Case> {
@@ -63,10 +67,11 @@ fn numbers() -> Vec<Case> {
     let far = altered::resumed(0, &positions::image(3, (1 << 36) - 1));
     let again = command::resume(7, &altered::written(1));
     let change = |position: u64| command::change_key(0, 0, &[0; 16], position);
+    let start = || command::start(0, &[0; 16]);
     vec![
         Case::new("no command left: no call, and 0", &[], "end 0 0").table("call code cmd data out\nend 0 0\n"),
         refused(1, "a crypt of three bytes", &[], vec![3, 0, 0]).table(ONE),
-        refused(2, "a first byte of 08", &[], vec![8, 0, 0, 0]).table(TWO),
+        refused(2, "a first byte of 0a", &[], vec![10, 0, 0, 0]).table(TWO),
         refused(3, "a close of line 8", &[], vec![6, 8]).table(THREE),
         refused(4, "an open with cipher 7", &[], command::open_own(0, 7, &[1; RECORD], &[0; 16])).table(FOUR),
         refused(5, "an open on an open line", &[open(0)], open(0)).table(FIVE),
@@ -84,6 +89,7 @@ fn numbers() -> Vec<Case> {
             .tray(one())
             .table(SEVENTEEN),
         refused(18, "a change above 2^36", &[open(0), change(0)], change((1 << 36) + 1)).tray(one()).table(EIGHTEEN),
+        refused(19, "a second start", &[command::load(0, 4, 0), start()], start()).tray(one()).table(NINETEEN),
     ]
 }
 
@@ -129,7 +135,7 @@ fn images_without_a_number() -> Vec<Case> {
 /// First bytes that are no command, before operands that would do for any.
 fn unknown() -> Vec<Case> {
     let of = |first: u8| refused(2, format!("a command {first:02x}"), &[], padded(&[first], 2 + IMAGE));
-    [0x00, 0x08, 0x09, 0x0A, 0x10, 0x81, 0x87, 0xFF].map(of).into()
+    [0x00, 0x0A, 0x0B, 0x10, 0x11, 0x80, 0x81, 0x88, 0x89, 0xFF].map(of).into()
 }
 
 /// Line 7 is the last; each command for lines 8 and 255 is refused.
@@ -142,21 +148,23 @@ fn lines() -> Vec<Case> {
     over.chain([last]).collect()
 }
 
-/// Both opens with unknown cipher numbers.
+/// Both opens and a load with unknown cipher numbers.
 fn ciphers() -> Vec<Case> {
     let of = |cipher: u8| {
         let own = command::open_own(0, cipher, &[1; RECORD], &[0; 16]);
         let from_tray = command::open_tray(0, cipher, 0, &[0; 16]);
         let tray = refused(4, format!("cipher {cipher} from the tray"), &[], from_tray).tray(vec![1; RECORD]);
-        [refused(4, format!("cipher {cipher}"), &[], own), tray]
+        let load = refused(4, format!("a load with cipher {cipher}"), &[], command::load(0, cipher, 0));
+        [refused(4, format!("cipher {cipher}"), &[], own), tray, load.tray(vec![1; RECORD])]
     };
     [0, 7, 8, 128, 255].into_iter().flat_map(of).collect()
 }
 
-/// The commands that start a line on an open one, and the others on an idle one.
+/// The commands that need an idle line on an open one, and the others on an idle one.
 fn open_or_idle() -> Vec<Case> {
     let of = |command: Vec<u8>| match command[0] {
-        1 | 2 | 5 => refused(5, format!("command 0{} on an open line", command[0]), &[open(3)], command),
+        1 | 2 | 5 | 8 => refused(5, format!("command 0{} on an open line", command[0]), &[open(3)], command),
+        9 => refused(19, "command 09 on an idle line", &[open(2)], command),
         _ => refused(6, format!("command 0{} on an idle line", command[0]), &[open(2)], command),
     };
     each(3).into_iter().map(|command| of(command).tray(vec![1; RECORD])).collect()

@@ -1,10 +1,11 @@
-//! A card that is the machine but for one thing that it does with changes of key, and what such things are made of.
+//! A card that is the machine but for one thing that it does with changes of key or with loads, and what such things are
+//! made of.
 
 use crate::calls::Card;
 use crate::cipher::{by_number, Shape};
 use crate::command::{self, length, CHANGE_KEY, CRYPT, IV, POSITION_AT, RECORD};
 use crate::images::image;
-use crate::machine::{Answer, Machine, SeenChange, END};
+use crate::machine::{Answer, Machine, SeenChange, SeenLoad, END};
 
 /// A way to be wrong: its name, and what the card does in the place of a call.
 pub type Way = (&'static str, fn(&mut Twisted, &Call, &mut [u8]) -> Answer);
@@ -52,11 +53,12 @@ pub struct Span<'a> {
     pub before: usize,
 }
 
-/// The card; it may keep the changes that closes dropped.
+/// The card; it may keep the changes that closes dropped, and what lines were loaded with.
 #[derive(Clone)]
 pub struct Twisted {
     pub machine: Machine,
     pub dropped: [Option<SeenChange>; 8],
+    pub kept: [Option<SeenLoad>; 8],
     way: &'static Way,
 }
 
@@ -76,7 +78,7 @@ impl Card for Twisted {
 
 impl Twisted {
     pub fn new(way: &'static Way) -> Twisted {
-        Twisted { machine: Machine::fresh(), dropped: Default::default(), way }
+        Twisted { machine: Machine::fresh(), dropped: Default::default(), kept: Default::default(), way }
     }
 
     /// What the machine does.

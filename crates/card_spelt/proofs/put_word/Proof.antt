@@ -1,10 +1,10 @@
--- `card_image::put_word` meets its contract: four bytes are stored, and what is behind them stays.
+-- `card_spelt::put_word` meets its contract: four bytes are stored, and what is behind them stays.
 -- Assumes nothing.
 use lib.ListN.{length-set}
-use Rattle.card_image.proofs.Fronts.{word-stored}
+use Rattle.card_spelt.proofs.Fronts.{word-stored}
 use borrow.Author.Needs.{needs}
-use Rattle.card_image.proofs.put_word.Statement.{statement}
-use Rattle.card_image.proofs.put_word.Tie as tie
+use Rattle.card_spelt.proofs.put_word.Statement.{statement}
+use Rattle.card_spelt.proofs.put_word.Tie as tie
 
 slice-write-out-2 : tie.Need-slice-write-out-2
 slice-write-out-2 c = simp length-set (search needs)

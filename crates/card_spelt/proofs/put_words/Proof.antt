@@ -1,15 +1,15 @@
--- `card_image::put_words` meets its contract: the bytes of the words before i stand at the start.
+-- `card_spelt::put_words` meets its contract: the bytes of the words before i stand at the start.
 -- Assumes nothing.
 use Prim.Native.Nat.{_-_, _*_, _≤_}
 use mathlib.Core.Path.{_≡_, refl}
 use native.Mathlib.Omega.{arith}
 use lib.ListN.{length, take}
-use Rattle.machine.specs.Fields.{spelt}
+use Rattle.ciphers.specs.States.{spelt}
 use Rattle.buffer.proofs.Fronts.{Front, front-none, front-length, front-room, front-within}
-use Rattle.card_image.proofs.Fronts.{word-more, words-all}
+use Rattle.card_spelt.proofs.Fronts.{word-more, words-all}
 use borrow.Author.Needs.{needs}
-use Rattle.card_image.proofs.put_words.Statement.{statement}
-use Rattle.card_image.proofs.put_words.Tie as tie
+use Rattle.card_spelt.proofs.put_words.Statement.{statement}
+use Rattle.card_spelt.proofs.put_words.Tie as tie
 
 abbrev Inv-loop : tie.InvT-loop
 Inv-loop w out₀ n i₀ out i = (i ≤ length w) × Front (spelt (take i w)) out₀ out (4 * i)
