@@ -25,7 +25,7 @@ use Rattle.rabbit.proofs.Ranges.{master-range, started-range}
 use Rattle.ciphers.specs.States.{stateWords, rabbitWords, rabbitState, spelt}
 use Rattle.ciphers.specs.Table.{CipherRow, cipherAt, allZero, zuc, rabbit, snow128, snow256, kcipher2, mugi}
 use Rattle.ciphers.specs.Fit.{Fit}
-use Rattle.ciphers.specs.Kept.{keyWords, keptOf, startOf, keepsOk}
+use Rattle.ciphers.specs.Kept.{keyWords, rabbitKept, keptOf, startOf, keepsOk}
 use Rattle.ciphers.proofs.Rows.{every-row, key-fits}
 use Rattle.ciphers.proofs.States.{all-take, rabbit-back, rabbit-fit, rabbit-range}
 use Rattle.ciphers.proofs.Sound.{sound}
@@ -155,7 +155,7 @@ rabbit-is c q = ap cipherAt (eqb-true c 2 q)
 
 -- what is kept, asked and started, by whether the cipher is Rabbit
 abbrev keptBy : Bool → List ℕ → List ℕ
-keptBy b key = pick b (rabbitWords (R.master key)) (keyWords key)
+keptBy b key = pick b (rabbitKept key) (keyWords key)
 
 abbrev asksBy : Bool → CipherRow → List ℕ → Bool
 asksBy b r kept = pick b (r .admits kept) (both (allZero (drop (r .key / 4) kept)) (not (allZero (take (r .key / 4) kept))))
@@ -163,7 +163,7 @@ asksBy b r kept = pick b (r .admits kept) (both (allZero (drop (r .key / 4) kept
 abbrev startBy : Bool → CipherRow → (kept iv : List ℕ) → List ℕ
 startBy b r kept iv = pick b (rabbitWords (R.started (rabbitState kept) iv)) (r .init (take (r .key) (spelt kept)) iv)
 
-rabbit-start-load : (key iv : List ℕ) → All Byte key → rabbitWords (R.started (rabbitState (rabbitWords (R.master key))) iv) ≡ rabbit .init key iv
+rabbit-start-load : (key iv : List ℕ) → All Byte key → rabbitWords (R.started (rabbitState (rabbitKept key)) iv) ≡ rabbit .init key iv
 unfolding rabbit R.init
 rabbit-start-load key iv h =
     let r = master-range key h in

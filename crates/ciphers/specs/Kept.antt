@@ -17,8 +17,12 @@ use Rattle.ciphers.specs.Table.{cipherAt, allZero}
 abbrev pub keyWords : List ℕ → List ℕ
 keyWords key = tab stateWords (λ i. wordAt key (4 * i))
 
+-- of Rabbit the words of the state after step 3
+abbrev pub rabbitKept : List ℕ → List ℕ
+rabbitKept key = rabbitWords (R.master key)
+
 unfoldable pub keptOf : ℕ → List ℕ → List ℕ
-keptOf c key = pick (eqb c 2) (rabbitWords (R.master key)) (keyWords key)
+keptOf c key = pick (eqb c 2) (rabbitKept key) (keyWords key)
 
 unfoldable pub startOf : ℕ → (kept iv : List ℕ) → List ℕ
 startOf c kept iv = pick (eqb c 2) (rabbitWords (R.started (rabbitState kept) iv)) (cipherAt c .init (take (cipherAt c .key) (spelt kept)) iv)

@@ -1,14 +1,14 @@
--- `card_kept::keep` meets its contract: Rabbit keeps its state, and the other ciphers the bytes of the key, which are whole words.
+-- `card_load::keep` meets its contract: Rabbit keeps its state, and the other ciphers the bytes of the key, which are whole words.
 -- Assumes nothing.
 use mathlib.Core.Path.{ap, _∙_}
 use Prim.Native.Nat.{ℕ, _%_}
 use native.Mathlib.Omega.{arith}
 use Rattle.command.specs.Decode.{numberOf}
 use Rattle.ciphers.proofs.Rows.{key-fits}
-use Rattle.card_kept.proofs.Sorts.{rabbit-key, rabbit-kept, key-whole, key-kept}
+use Rattle.card_load.proofs.Sorts.{rabbit-key, rabbit-kept, key-whole, key-kept}
 use borrow.Author.Needs.{needs}
-use Rattle.card_kept.proofs.keep.Statement.{statement}
-use Rattle.card_kept.proofs.keep.Tie as tie
+use Rattle.card_load.proofs.keep.Statement.{statement}
+use Rattle.card_load.proofs.keep.Tie as tie
 
 -- ---- places
 

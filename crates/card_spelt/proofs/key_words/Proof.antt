@@ -1,4 +1,4 @@
--- `card_kept::key_words` meets its contract: the words before i are those of the key, and zeros come behind the last.
+-- `card_spelt::key_words` meets its contract: the words before i are those of the key, and zeros come behind the last.
 -- Assumes nothing.
 use mathlib.Core.Path.{_≡_, refl, ap, _∙_}
 use mathlib.Core.List.{_++_}
@@ -10,10 +10,10 @@ use Rattle.words.specs.Strings.{wordAt}
 use Rattle.words.proofs.Ranges.{all-known}
 use Rattle.words.proofs.Registers.{fill}
 use Rattle.card_sizes.specs.Sizes.{stateWords}
-use Rattle.card_kept.proofs.Sorts.{words-stored}
+use Rattle.card_spelt.proofs.Keys.{words-stored}
 use borrow.Author.Needs.{needs}
-use Rattle.card_kept.proofs.key_words.Statement.{statement}
-use Rattle.card_kept.proofs.key_words.Tie as tie
+use Rattle.card_spelt.proofs.key_words.Statement.{statement}
+use Rattle.card_spelt.proofs.key_words.Tie as tie
 
 abbrev Inv-loop : tie.InvT-loop
 Inv-loop key n w₀ i₀ w i = (i ≤ length key / 4) × (w ≡ tab i (λ k. wordAt key (4 * k)) ++ drop i w₀)

@@ -1,4 +1,4 @@
--- `card_kept::start_spelt` meets its contract: the key is the front of the bytes that eight words spell.
+-- `card_load::start_spelt` meets its contract: the key is the front of the bytes that eight words spell.
 -- Assumes nothing.
 use mathlib.Core.Path.{_≡_, ap, sym, _∙_}
 use mathlib.Core.List.{List}
@@ -9,10 +9,10 @@ use lib.Seq.{length-take-le}
 use Rattle.ciphers.specs.Table.{cipherAt}
 use Rattle.command.specs.Decode.{numberOf}
 use Rattle.ciphers.proofs.Rows.{key-fits}
-use Rattle.card_kept.proofs.Sorts.{key-front}
+use Rattle.card_load.proofs.Sorts.{key-front}
 use borrow.Author.Needs.{needs}
-use Rattle.card_kept.proofs.start_spelt.Statement.{statement}
-use Rattle.card_kept.proofs.start_spelt.Tie as tie
+use Rattle.card_load.proofs.start_spelt.Statement.{statement}
+use Rattle.card_load.proofs.start_spelt.Tie as tie
 
 -- ---- places
 

@@ -1,13 +1,13 @@
--- `card_kept::start` meets its contract: Rabbit goes on from its state, and the other ciphers from the key that the words spell.
+-- `card_load::start` meets its contract: Rabbit goes on from its state, and the other ciphers from the key that the words spell.
 -- Assumes nothing.
 use mathlib.Core.Path.{_≡_, sym}
 use native.Mathlib.Omega.{arith}
 use lib.ListN.{length, take}
 use lib.Seq.{length-take-le}
-use Rattle.card_kept.proofs.Sorts.{rabbit-admits, rabbit-started, key-started}
+use Rattle.card_load.proofs.Sorts.{rabbit-admits, rabbit-started, key-started}
 use borrow.Author.Needs.{needs}
-use Rattle.card_kept.proofs.start.Statement.{statement}
-use Rattle.card_kept.proofs.start.Tie as tie
+use Rattle.card_load.proofs.start.Statement.{statement}
+use Rattle.card_load.proofs.start.Tie as tie
 
 -- ---- places
 

@@ -1,19 +1,16 @@
--- What is kept of a key and what is started, by whether the cipher is Rabbit; and the words of a key that is stored word by word.
+-- What is kept of a key and what is started, by whether the cipher is Rabbit; and that the front of what eight words spell is a key.
 -- Assumes nothing.
 use mathlib.Core.Path.{_≡_, refl, ap, ap₂, sym, _∙_}
 use mathlib.Core.Bool.{Bool, true, false}
 use mathlib.Core.List.{List, [], _∷_, _++_, append-nil}
-use Prim.Native.Nat.{ℕ, zero, suc, _*_, _%_, _≤_}
+use Prim.Native.Nat.{ℕ, _*_, _%_}
 use native.Mathlib.Omega.{arith}
 use denote.Enum.Declared.{tagOf}
 use types.Run.{OneOf, miss}
 use lib.Dec.{eqb}
 use lib.ListN.{length, take, drop, replicate}
 use lib.Seq.{take-take, length-take-le}
-use Rattle.words.specs.Lists.{All, Byte, tab}
-use Rattle.words.specs.Strings.{wordAt}
 use Rattle.words.specs.Tests.{pick}
-use Rattle.words.proofs.Registers.{cons}
 use Rattle.rabbit.specs.Cipher.{master, started}
 use Rattle.command.proofs.Cipher.{the-type}
 use Rattle.command.specs.declared.Cipher.{Cipher}
@@ -22,9 +19,9 @@ use Rattle.command.specs.Decode.{numberOf}
 use Rattle.card_sizes.specs.Sizes.{keyLength}
 use Rattle.ciphers.specs.States.{stateWords, rabbitWords, rabbitState, spelt}
 use Rattle.ciphers.specs.Table.{cipherAt, zuc, rabbit, snow128, snow256, kcipher2, mugi}
-use Rattle.ciphers.specs.Kept.{keyWords, keptOf, startOf, keepsOk}
+use Rattle.ciphers.specs.Kept.{keyWords, rabbitKept, keptOf, startOf, keepsOk}
 use Rattle.ciphers.proofs.Rows.{every-row, key-fits}
-use Rattle.ciphers.proofs.Kept.{spelt-take, beyond}
+use Rattle.ciphers.proofs.Kept.{spelt-take}
 
 -- ---- Rabbit
 
@@ -59,7 +56,7 @@ not-rabbit Mugi k = refl
 module _ (c : Cipher) (k : OneOf (0 ∷ 2 ∷ 3 ∷ 4 ∷ 5 ∷ []) (tagOf the-type c)) where
   pub key-kept : {w : List ℕ} (key : List ℕ) → w ≡ keyWords key → w ≡ keptOf (numberOf c) key
   unfolding keptOf
-  key-kept key h = h ∙ sym (ap (λ (b : Bool). pick b (rabbitWords (master key)) (keyWords key)) (not-rabbit c k))
+  key-kept key h = h ∙ sym (ap (λ (b : Bool). pick b (rabbitKept key) (keyWords key)) (not-rabbit c k))
 
   pub key-started : {w : List ℕ} (kept iv : List ℕ) → w ≡ cipherAt (numberOf c) .init (take (cipherAt (numberOf c) .key) (spelt kept)) iv → w ≡ startOf (numberOf c) kept iv
   unfolding startOf
@@ -72,16 +69,6 @@ module _ (c : Cipher) (k : OneOf (0 ∷ 2 ∷ 3 ∷ 4 ∷ 5 ∷ []) (tagOf the-t
 pub key-whole : (c : ℕ) → cipherAt c .key % 4 ≡ 0
 unfolding zuc rabbit snow128 snow256 kcipher2 mugi
 key-whole = every-row (λ r. r .key % 4 ≡ 0) refl refl refl refl refl refl
-
-tab-zeros : (m n : ℕ) (f : ℕ → ℕ) → ((i : ℕ) → m ≤ i → f i ≡ 0) → m ≤ n → tab m f ++ drop m (replicate n 0) ≡ tab n f
-tab-zeros zero zero f h q = refl
-tab-zeros zero (suc n) f h q = cons (sym (h zero (omega arith))) (tab-zeros zero n (λ i. f (suc i)) (λ i _. h (suc i) (omega arith)) (omega arith))
-tab-zeros (suc m) zero f h q = absurd (omega (arith, q))
-tab-zeros (suc m) (suc n) f h q = cons refl (tab-zeros m n (λ i. f (suc i)) (λ i p. h (suc i) (omega (arith, p))) (omega (arith, q)))
-
--- its words, stored, and zeros behind them
-pub words-stored : (key : List ℕ) → All Byte key → (m : ℕ) → length key ≡ 4 * m → m ≤ stateWords → tab m (λ i. wordAt key (4 * i)) ++ drop m (replicate stateWords 0) ≡ keyWords key
-words-stored key h m e q = tab-zeros m stateWords (λ i. wordAt key (4 * i)) (beyond key h m e q) q
 
 -- the bytes of eight words, of which a key is the front
 pub key-front : (c : ℕ) (kept : List ℕ) {key : List ℕ} {k : ℕ} → length kept ≡ stateWords → k ≡ cipherAt c .key
