@@ -14,7 +14,8 @@ use Rattle.card_outcome.specs.Leaves.{callOf, outOf, CallLeaves}
 use Rattle.card.specs.declared.Answer.{Answer}
 use Rattle.card.specs.Ran.{seenOf, CallPromise}
 use Rattle.card.proofs.Calls.{called}
-use Rattle.session_table.specs.Table.{Behind, callRow}
+use Rattle.text.specs.Text.{Behind}
+use Rattle.session_table.specs.Table.{callRow}
 use Rattle.session.specs.declared.Progress.{Progress}
 use Rattle.session.specs.Session.{made}
 use Rattle.session.specs.Progress.{here, next, Turned}

@@ -19,13 +19,13 @@ use Rattle.card_line.specs.Words.{lineIn}
 use Rattle.card_layout.specs.Words.{cardIn}
 use Rattle.card_outcome.specs.Leaves.{callOf}
 use Rattle.card.specs.Ran.{seenOf}
-use Rattle.decimal.specs.Decimal.{decimal}
-use Rattle.decimal.proofs.Digits.{digits-few}
-use Rattle.session_table.specs.Table.{Behind, figure, space, newline, columns, callRow, endOf, acceptedOf}
+use Rattle.text.specs.Text.{Behind, decimal, figure, space, newline}
+use Rattle.text.proofs.Digits.{digits-few}
+use Rattle.text.proofs.Pieces.{behind-front, behind-rest, behind-length}
+use Rattle.session_table.specs.Table.{columns, callRow, endOf, acceptedOf}
 use Rattle.session.specs.declared.Progress.{Progress}
 use Rattle.session.specs.Session.{made, rest, calls, readLength, writtenBy, acceptedCount, lastCode, rowsFrom, tableOf, session}
 use Rattle.session.specs.Progress.{startOf, here, next, Ready, Turned, Sizes, Finished, RunLeaves}
-use Rattle.session_table.proofs.Text.{behind-front, behind-rest, behind-length}
 use Rattle.session.proofs.Bounds.{bounded, code-few}
 
 -- ---- one call of those that are left

@@ -9,7 +9,8 @@ use Rattle.machine.specs.Machine.{Call, freshCard}
 use Rattle.machine.specs.Calls.{Made}
 use Rattle.card_outcome.specs.Leaves.{callOf}
 use Rattle.card.specs.Ran.{seenOf, fresh}
-use Rattle.session_table.specs.Table.{Behind, columns, callRow, acceptedOf}
+use Rattle.text.specs.Text.{Behind}
+use Rattle.session_table.specs.Table.{columns, callRow, acceptedOf}
 use Rattle.session.specs.declared.Progress.{Progress}
 use Rattle.session.specs.declared.Ended.{Ended}
 use Rattle.session.specs.Session.{made, calls, readLength, writtenBy, acceptedCount, lastCode, rowsFrom, tableOf, session}

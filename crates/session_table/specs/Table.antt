@@ -1,32 +1,10 @@
--- The table that the program prints (document 01, `cardrun`): column names, the line of a call, the last line; and text behind what stands in a buffer.
+-- The table that the program prints (document 01, `cardrun`): column names, the line of a call, the last line.
 -- Assumes nothing.
-use mathlib.Core.Path.{_≡_}
 use mathlib.Core.List.{List, [], _∷_, _++_}
-use Prim.Native.Nat.{ℕ, _+_, _-_, _≤_}
+use Prim.Native.Nat.{ℕ, _-_}
 use lib.Dec.{eqb}
-use lib.ListN.{length, take, drop}
 use Rattle.words.specs.Tests.{pick}
-use Rattle.decimal.specs.Decimal.{decimal}
-
--- ---- text in a buffer
-
--- out is before with p behind its first at bytes, up to r; what is behind p stays
-pub record Behind (p : List ℕ) (at : ℕ) (before out : List ℕ) (r : ℕ) : Type 0 where
-  pub end : r ≡ at + length p
-  pub fits : r ≤ length before
-  pub is : out ≡ (take at before ++ p) ++ drop r before
-
--- ---- the table
-
--- a figure and the byte behind it
-abbrev pub figure : ℕ → ℕ → List ℕ
-figure n end = decimal n ++ (end ∷ [])
-
-abbrev pub space : ℕ
-space = 32
-
-abbrev pub newline : ℕ
-newline = 10
+use Rattle.text.specs.Text.{figure, space, newline}
 
 -- "call code cmd data out" and a newline
 abbrev pub columns : List ℕ

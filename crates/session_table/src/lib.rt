@@ -1,17 +1,11 @@
-// The table that the program prints: a figure, a call's line and the last line, each behind what stands before it in a buffer; and how
-// many calls were accepted.
+// The table that the program prints: a call's line and the last line, each behind what stands before it in a buffer; and how many calls were
+// accepted.
 ghost use mathlib.Core.Path.{_≡_};
 ghost use Prim.Native.Nat.{_+_, _≤_};
 ghost use lib.ListN.{length};
-ghost use Rattle.session_table.specs.Table.{Behind, figure, callRow, endOf, acceptedOf};
-
-// A figure and the byte end go behind the first at bytes of out. Returns where they end.
-fn put_figure(n: u64, end: u8, at: usize, out: &mut [u8]) -> usize
-    requires { ⌜ at + 21 ≤ length (now out) ⌝ }
-    ensures { λ r. ⌜ Behind (figure n end) at (now (out .entry)) (now (out .exit)) r ⌝ }
-{
-    at + decimal::put(n, end, &mut out[at..])
-}
+ghost use Rattle.text.specs.Text.{Behind};
+ghost use Rattle.session_table.specs.Table.{callRow, endOf, acceptedOf};
+use text::put_figure;
 
 // A line of the table goes behind the first at bytes of out. Returns where it ends.
 pub fn put_row(
@@ -38,8 +32,7 @@ pub fn put_end(accepted: usize, code: u8, at: usize, out: &mut [u8]) -> usize
     requires { ⌜ at + 46 ≤ length (now out) ⌝ }
     ensures { λ r. ⌜ Behind (endOf accepted code) at (now (out .entry)) (now (out .exit)) r ⌝ }
 {
-    buffer::put(b"end ", &mut out[at..]);
-    let a = at + 4;
+    let a = text::put(b"end ", at, out);
     let b = put_figure(accepted as u64, 32, a, out);
     put_figure(code as u64, 10, b, out)
 }

@@ -1,20 +1,19 @@
 -- `session_table::put_end` meets its contract: the word, and each figure behind it.
 -- Assumes nothing.
-use mathlib.Core.Path.{refl}
 use native.Mathlib.Omega.{arith}
-use Rattle.session_table.specs.Table.{endOf, last}
-use Rattle.session_table.proofs.Text.{figure-room, behind-length, behind-part, behind-more}
+use Rattle.text.proofs.Pieces.{figure-room, behind-length, behind-more}
+use Rattle.session_table.specs.Table.{endOf}
 use borrow.Author.Needs.{needs}
 use Rattle.session_table.proofs.put_end.Statement.{statement}
 use Rattle.session_table.proofs.put_end.Tie as tie
 
 -- ---- places
 
-abbrev after-put : tie.After-put-figure → tie.After-put
-after-put c = c .before .before .before .before
-
 abbrev start : tie.After-put → tie.Start
 start c = c .before .before .before .before
+
+abbrev after-put : tie.After-put-figure → tie.After-put
+after-put c = c .before .before .before .before
 
 abbrev after-put-figure : tie.After-put-figure2 → tie.After-put-figure
 after-put-figure c = c .before .before .before .before
@@ -23,9 +22,9 @@ put-figure-requires-2 : tie.Need-put-figure-requires-2
 put-figure-requires-2 c κs =
     let p2 = c .before .before .before in
     let p1 = after-put p2 in
-    let a = start p1 in
-    let h = a .pre in
-    let l = behind-length (behind-part last _ (a .args .out .now) (a .args .at) 4 refl (omega arith) (p1 .put .ensures)) in
+    let h = start p1 .pre in
+    let e = p1 .put .ensures .end in
+    let l = behind-length (p1 .put .ensures) in
     figure-room _ _ (p2 .put-figure .ensures) 21 (omega arith)
 
 returns : tie.Need-returns
@@ -33,13 +32,8 @@ unfolding endOf
 returns c =
     let p3 = c .before .before in
     let p2 = after-put-figure p3 in
-    let p1 = after-put p2 in
-    let a = start p1 in
-    let h = a .pre in
-    behind-more
-    (behind-more (behind-part last _ (a .args .out .now) (a .args .at) 4 refl (omega arith) (p1 .put .ensures)) (p2 .put-figure .ensures))
-    (p3 .put-figure2 .ensures)
+    behind-more (behind-more (after-put p2 .put .ensures) (p2 .put-figure .ensures)) (p3 .put-figure2 .ensures)
 
 pub put-end-spec : {M : Type 1} → statement M
 put-end-spec =
-    tie.close (tie.spec (search needs) (search needs) (search needs) (search needs) (search needs) (search needs) (search needs) put-figure-requires-2 (search needs) returns)
+    tie.close (tie.spec (search needs) (λ c κs. search needs) (λ c κs. search needs) put-figure-requires-2 (search needs) returns)

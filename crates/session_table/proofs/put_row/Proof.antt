@@ -2,7 +2,7 @@
 -- Assumes nothing.
 use native.Mathlib.Omega.{arith}
 use Rattle.session_table.specs.Table.{callRow}
-use Rattle.session_table.proofs.Text.{figure-room, behind-more}
+use Rattle.text.proofs.Pieces.{figure-room, behind-more}
 use borrow.Author.Needs.{needs}
 use Rattle.session_table.proofs.put_row.Statement.{statement}
 use Rattle.session_table.proofs.put_row.Tie as tie

@@ -8,12 +8,11 @@ use native.Mathlib.Nat.{mod-lt, not-suc-le-zero, pow-suc, pow-le-pow-right}
 use native.Mathlib.Numerals.{sub-one}
 use native.Mathlib.Omega.{arith}
 use lib.Dec.{ltb, lit≤}
-use lib.ListN.{length, take, drop, set, length-append}
+use lib.ListN.{length, take, length-append}
 use borrow.Author.Tests.{ltb-true, ltb-false, lt-ltb, le-ltb}
 use Rattle.io.specs.Digits.{glyph, digits, Fewest}
 use Rattle.words.specs.Tests.{pick}
-use Rattle.buffer.proofs.Fronts.{Front, front-store}
-use Rattle.decimal.specs.Decimal.{digitsOf, decimal}
+use Rattle.text.specs.Text.{digitsOf, decimal, figure}
 
 -- a digit's glyph
 digit : (d : ℕ) → d < 10 → glyph d ≡ 48 + d
@@ -64,18 +63,9 @@ places n k h f = by (ltb 20 k) refl
         let p : 10 ^ 20 ≤ 10 ^ (k - 1) = pow-le-pow-right {n = 10} (lit≤ tt) r in
         absurd (omega arith)
 
--- ---- a number and the byte behind it, put to a buffer
-
-pub number-put : (n e k : ℕ) (d before out : List ℕ) → n < 2 ^ 64 → Fewest 10 1 n k → k ≡ length (take k d) → take k d ≡ digits 10 k n → 21 ≤ length before →
-    out ≡ take k d ++ drop (length (take k d)) before →
-    (k + 1 ≡ length (decimal n ++ (e ∷ []))) × (set out k e ≡ (decimal n ++ (e ∷ [])) ++ drop (k + 1) before)
-number-put n e k d before out w f l s room o =
-    let h = places n k w f in
-    let t : take k d ≡ decimal n = s ∙ fewest-digits k 20 n f h in
-    let front : Front (take k d) before out k =
-    record { size = sym l; fits = omega arith; is = o ∙ ap (λ (x : ℕ). take k d ++ drop x before) (sym l) } in
-    let r = rw t at (front-store e (omega arith) front) in
-    (sym (r .size), r .is)
+-- what the fewest digits that hold n are, read from a buffer
+pub decimal-text : (n k : ℕ) (d : List ℕ) → n < 2 ^ 64 → Fewest 10 1 n k → take k d ≡ digits 10 k n → take k d ≡ decimal n
+decimal-text n k d h f s = s ∙ fewest-digits k 20 n f (places n k h f)
 
 -- ---- how many digits there are
 
@@ -98,3 +88,7 @@ digits-few zero (suc j) n h =
 digits-few (suc k) (suc j) n h =
     let q : n < 10 ^ suc k * 10 = rw (sym (power (suc k))) h in
     few (ltb n 10) n (suc k) j (digits-few k j (n / 10) (omega arith))
+
+-- a figure has 21 bytes at most with the one behind it
+pub figure-most : (n e : ℕ) → length (figure n e) ≤ 21
+figure-most n e = omega (arith, digits-most 20 n, length-append (decimal n) (e ∷ []))
