@@ -1,0 +1,3 @@
+mod Figures
+pub mod Sheet
+pub mod Balance
