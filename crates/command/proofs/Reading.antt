@@ -1,5 +1,5 @@
--- What a command that is read has: a line of the card, which its second byte names, and all its bytes; and one that is not read has a number of document 01's. Each follows from the rows and
--- from what each form says.
+-- What a command that is read has: the kind that its first byte says, a line of the card, which its second byte names, and all its bytes; and one that is not read has a number of document 01's.
+-- Each follows from the rows and from what each form says.
 -- Assumes nothing.
 use mathlib.Core.Path.{_≡_, refl, sym, subst, _∙_}
 use mathlib.Core.Bool.{Bool, true, false}
@@ -68,6 +68,7 @@ forms-say =
 -- ---- a command
 
 pub record Has (s : List ℕ) (c : Command) : Type 0 where
+  pub kind : operandsOf c .kind ≡ getD s 0 0
   pub line : lineOf c < 8
   pub named : lineOf c ≡ getD s 1 0
   pub whole : sizeOf c ≤ length s
@@ -85,20 +86,22 @@ module _ (s : List ℕ) where
   in-pick true x y h k = h refl
   in-pick false x y h k = k
 
-  module _ (k : ℕ) (whole : lengthOf k ≤ length s) (line : getD s 1 0 < 8) where
-    in-form : (n : ℕ) (d : Decoded) → Says n s d → eqb k n ≡ true → ReadIn s d
+  module _ (whole : lengthOf (getD s 0 0) ≤ length s) (line : getD s 1 0 < 8) where
+    in-form : (n : ℕ) (d : Decoded) → Says n s d → eqb (getD s 0 0) n ≡ true → ReadIn s d
     in-form n (Refused j) (says-number z) e = refused-in z
     in-form n (Run c) (says-run q l) e =
+        let k : operandsOf c .kind ≡ getD s 0 0 = q ∙ sym (eqb-true (getD s 0 0) n e) in
         run-in
         (record {
+          kind = k;
           line = subst (λ (i : ℕ). i < 8) (sym l) line;
           named = l;
-          whole = subst (λ (x : ℕ). lengthOf x ≤ length s) (eqb-true k n e ∙ sym q) whole;
+          whole = subst (λ (x : ℕ). lengthOf x ≤ length s) (sym k) whole;
         })
 
-    in-forms : (fs : List Form) → AllSay fs → ReadIn s (readIn fs k s)
+    in-forms : (fs : List Form) → AllSay fs → ReadIn s (readIn fs (getD s 0 0) s)
     in-forms [] none-says = refused-in tt
-    in-forms (f ∷ fs) (each-says g h) = in-pick (eqb k (f .kind)) _ _ (in-form (f .kind) (f .read s) (g s)) (in-forms fs h)
+    in-forms (f ∷ fs) (each-says g h) = in-pick (eqb (getD s 0 0) (f .kind)) _ _ (in-form (f .kind) (f .read s) (g s)) (in-forms fs h)
 
   pub read-in : ReadIn s (decodeOf s)
   unfolding decodeOf commandOf
@@ -106,7 +109,7 @@ module _ (s : List ℕ) where
       by-rows (ReadIn s) refusedIf isNumber in-row (unread s) _ tt
       (λ p.
       let far = ltb-false 7 (getD s 1 0) (p .1 .1 .1 .0) in
-      in-forms (getD s 0 0) (ltb-false (length s) (lengthOf (getD s 0 0)) (p .1 .1 .0)) (omega (arith, far)) forms forms-say)
+      in-forms (ltb-false (length s) (lengthOf (getD s 0 0)) (p .1 .1 .0)) (omega (arith, far)) forms forms-say)
 
 -- what holds of a command that was read
 pub run-has : (s : List ℕ) (d : Decoded) (c : Command) → d ≡ Run c → ReadIn s d → Has s c

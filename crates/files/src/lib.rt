@@ -1,5 +1,5 @@
-// Files by name: the start of one read into a buffer, and bytes written as the whole of one. What fails is said on standard error, behind
-// a label.
+// Files by name: the start of one read into a buffer, and bytes written as the whole of one or to its end. What fails is said on standard
+// error, behind a label.
 
 // Says on standard error what failed. Answers false.
 fn failed(label: &[u8]) -> bool {
@@ -50,4 +50,31 @@ fn write(fd: i32, label: &[u8], bytes: &[u8]) -> bool {
 // The bytes become the whole of a file. Answers whether they did.
 pub fn save(path: &[u8], label: &[u8], bytes: &[u8]) -> bool {
     write(os::open_overwrite(path), label, bytes)
+}
+
+// Makes a file where there is none. Answers whether there is one.
+fn made(path: &[u8]) -> bool {
+    let fd = os::create(path);
+    if fd < 0 {
+        return os::errno() == libc::EEXIST;
+    }
+    libc::close(fd) >= 0
+}
+
+// The bytes go to the end of a file, which is made where there is none; no bytes make no file. Answers whether they did.
+pub fn append(path: &[u8], label: &[u8], bytes: &[u8]) -> bool {
+    if bytes.len() == 0 {
+        return true;
+    }
+    let fd = os::open_append(path);
+    if fd >= 0 {
+        return write(fd, label, bytes);
+    }
+    if os::errno() != libc::ENOENT {
+        return failed(label);
+    }
+    if !made(path) {
+        return failed(label);
+    }
+    write(os::open_append(path), label, bytes)
 }

@@ -1,9 +1,10 @@
--- Of the program's calls demand 3 holds, and they end as document 01 has it: each call is made on the card that the one before it returned, and every accepted one takes bytes away.
+-- Of the program's calls demand 3 holds, and they end as document 01 has it: each call is made on the card that the one before it returned, and every accepted one takes bytes away. What is
+-- read of its records is what they were made of, since no number in them is above the length of the data.
 -- Assumes nothing.
 use mathlib.Core.Path.{_≡_, refl}
 use mathlib.Core.Bool.{Bool, true, false}
 use mathlib.Core.List.{List, [], _∷_}
-use Prim.Native.Nat.{ℕ, zero, suc, _≤_}
+use Prim.Native.Nat.{ℕ, zero, suc, _≤_, _<_, _^_}
 use native.Mathlib.Omega.{arith}
 use lib.Dec.{eqb}
 use lib.ListN.{length, take, length-take, length-drop}
@@ -20,10 +21,14 @@ use Rattle.lists.specs.Parking.{ParkedCalls}
 use Rattle.lists.specs.Steps.{Steps, none, step}
 use Rattle.lists.proofs.Steps.{steps-one-stream, steps-counted, steps-parked-calls}
 use Rattle.ciphers.proofs.States.{all-take}
+use Rattle.records.specs.Records.{uses}
+use Rattle.records.proofs.Reading.{Fit, none as none-fits, fit-append, uses-back}
+use Rattle.session_call.specs.Turn.{made}
+use Rattle.session_call.proofs.Bounds.{bounded}
+use Rattle.session_call.proofs.Uses.{record-fits}
 use Rattle.session.specs.declared.Ended.{Ended}
 use Rattle.session.specs.Progress.{RunPromise}
-use Rattle.session.specs.Session.{made, rest, calls, readLength, lent, session}
-use Rattle.session.proofs.Bounds.{bounded}
+use Rattle.session.specs.Session.{rest, calls, readLength, lent, session, usesBy, recordsBy}
 
 -- ---- demand 3
 
@@ -57,7 +62,7 @@ module _ (commands tray text out : List ℕ) (p : All Byte (take readLength comm
   session-parked-calls = steps-parked-calls (session commands tray text out) all-steps
 
 -- Demand 3 of every run of the program, by its promise alone, and what becomes of its parked calls.
-module _ {commands tray text out table out' table' : List ℕ} {r : Ended} (h : RunPromise commands tray text out table out' table' r) where
+module _ {commands tray text out table records out' table' records' : List ℕ} {r : Ended} (h : RunPromise commands tray text out table records out' table' records' r) where
   pub run-one-stream : OneStream (session commands tray text out)
   run-one-stream = session-one-stream commands tray text out (all-take readLength (h .command-bytes)) (all-take readLength (h .tray-bytes))
 
@@ -101,3 +106,27 @@ calls-complete (suc k) c a h =
 pub session-complete : (commands tray text out : List ℕ) → Complete freshCard (lent commands tray text out) (session commands tray text out)
 session-complete commands tray text out =
     calls-complete readLength freshCard (lent commands tray text out) (omega (arith, length-take readLength commands, min-le-left readLength (length commands)))
+
+-- ---- what is read of its records
+
+calls-fit : (k : ℕ) (c : Seen) (a : Call) → length (a .text) < 2 ^ 64 → Fit (usesBy (calls k c a))
+unfolding calls usesBy made rest
+calls-fit zero c a h = none-fits
+calls-fit (suc k) c a h =
+    first (eqb (length (a .command)) 0) _
+    (fit-append (record-fits (made c a) h)
+    (next (eqb (made c a .code) 0) _ (calls-fit k (made c a .card) (rest a (made c a)) (omega (arith, length-drop (made c a .used-data) (a .text))))))
+  where
+    next : (b : Bool) (xs : List Made) → Fit (usesBy xs) → Fit (usesBy (pick b xs []))
+    next true xs g = g
+    next false xs g = none-fits
+
+    first : (b : Bool) (xs : List Made) → Fit (usesBy (made c a ∷ xs)) → Fit (usesBy (pick b [] (made c a ∷ xs)))
+    first true xs g = none-fits
+    first false xs g = g
+
+-- what is read of the records that a run leaves is what it did: its accepted crypts, in order
+pub session-uses : (commands tray text out : List ℕ) → uses (recordsBy (session commands tray text out)) ≡ usesBy (session commands tray text out)
+session-uses commands tray text out =
+    uses-back (usesBy (session commands tray text out))
+    (calls-fit readLength freshCard (lent commands tray text out) (omega (arith, length-take readLength text, min-le-left readLength (length text))))

@@ -9,7 +9,7 @@ use lib.ListN.{length, take, drop, length-take}
 use lib.Seq.{take-at}
 use Rattle.machine.specs.Calls.{Made}
 use Rattle.session.specs.declared.Ended.{Ended}
-use Rattle.session.specs.Session.{writtenBy, tableOf}
+use Rattle.session.specs.Session.{writtenBy, recordsBy, tableOf}
 use Rattle.session.specs.Progress.{RunLeaves}
 
 -- what stands at the start of a buffer has as many bytes as it says
@@ -20,7 +20,7 @@ front l p rest n e h = e ∙ ap length (sym (ap (take n) h ∙ take-at p rest n 
 within : (l : List ℕ) (n : ℕ) → n ≡ length (take n l) → n ≤ length l
 within l n e = omega (arith, length-take n l, min-le-right n (length l))
 
-module _ {xs : List Made} {out table out' table' : List ℕ} {r : Ended} (h : RunLeaves xs out table out' table' r) where
+module _ {xs : List Made} {out table records out' table' records' : List ℕ} {r : Ended} (h : RunLeaves xs out table records out' table' records' r) where
   pub out-front : r .written ≡ length (take (r .written) out')
   out-front = front out' (writtenBy xs) (drop (r .written) out) (r .written) (h .written) (h .out-is)
 
@@ -32,3 +32,9 @@ module _ {xs : List Made} {out table out' table' : List ℕ} {r : Ended} (h : Ru
 
   pub table-within : r .printed ≤ length table'
   table-within = within table' (r .printed) table-front
+
+  pub records-front : r .recorded ≡ length (take (r .recorded) records')
+  records-front = front records' (recordsBy xs) (drop (r .recorded) records) (r .recorded) (h .recorded) (h .records-is)
+
+  pub records-within : r .recorded ≤ length records'
+  records-within = within records' (r .recorded) records-front

@@ -1,6 +1,4 @@
 mod Read
-mod Bounds
-mod Answers
 mod Sofar
 pub mod Left
 pub mod Demands

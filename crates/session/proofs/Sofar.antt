@@ -1,16 +1,16 @@
 -- A run of the program, call by call: what is in the buffers and what the calls that are left will put there is, together, what all calls put there. Each call takes the first of those that
 -- are left, and at the end none is left.
 -- Assumes nothing.
-use mathlib.Core.Path.{_≡_, refl, ap, ap₂, sym, _∙_}
+use mathlib.Core.Path.{_≡_, refl, ap, ap₂, sym, _∙_, subst}
 use mathlib.Core.Bool.{Bool, true, false}
-use mathlib.Core.List.{List, [], _∷_, _++_, append-assoc, append-nil}
+use mathlib.Core.List.{List, [], _∷_, _++_}
 use Prim.Native.Nat.{ℕ, zero, suc, _+_, _-_, _*_, _<_, _≤_}
-use native.Mathlib.Nat.{not-suc-le-zero, zero-add, min-le-left}
+use native.Mathlib.Nat.{not-suc-le-zero, zero-add, add-assoc, min-le-left}
 use native.Mathlib.Numerals.{sub-one}
 use native.Mathlib.Omega.{arith}
 use lib.Dec.{eqb, lit≤}
-use lib.ListN.{length, take, drop, length-append, length-take, length-drop, take-append-drop}
-use lib.Seq.{length-take-le, take-at, drop-at, drop-drop, take-append-add, drop-append-add}
+use lib.ListN.{length, take, drop, length-append, length-take, length-drop}
+use lib.Seq.{length-take-le, drop-at, drop-drop}
 use borrow.Author.Tests.{eq-eqb, ne-eqb, eqb-true}
 use Rattle.words.specs.Tests.{pick}
 use Rattle.machine.specs.Machine.{Call, Seen, cardStep, freshCard}
@@ -19,14 +19,19 @@ use Rattle.card_line.specs.Words.{lineIn}
 use Rattle.card_layout.specs.Words.{cardIn}
 use Rattle.card_outcome.specs.Leaves.{callOf}
 use Rattle.card.specs.Ran.{seenOf}
+use Rattle.lists.specs.Logs.{did}
 use Rattle.text.specs.Text.{Behind, decimal, figure, space, newline}
 use Rattle.text.proofs.Digits.{digits-few}
-use Rattle.text.proofs.Pieces.{behind-front, behind-rest, behind-length}
+use Rattle.text.proofs.Pieces.{behind-length, behind-rest, behind-more, behind-start, Gathering, gather-none, gather-more, gather-all}
+use Rattle.records.specs.Records.{recordsOf}
+use Rattle.records.proofs.Reading.{records-append}
 use Rattle.session_table.specs.Table.{columns, callRow, endOf, acceptedOf}
-use Rattle.session.specs.declared.Progress.{Progress}
-use Rattle.session.specs.Session.{made, rest, calls, readLength, writtenBy, acceptedCount, lastCode, rowsFrom, tableOf, session}
-use Rattle.session.specs.Progress.{startOf, here, next, Ready, Turned, Sizes, Finished, RunLeaves}
-use Rattle.session.proofs.Bounds.{bounded, code-few}
+use Rattle.session_call.specs.declared.Progress.{Progress}
+use Rattle.session_call.specs.Turn.{made, usedBy, here, next, Ready, Turned}
+use Rattle.session_call.proofs.Bounds.{bounded, code-few}
+use Rattle.session_call.proofs.Uses.{record-few}
+use Rattle.session.specs.Session.{rest, calls, readLength, writtenBy, usesBy, recordsBy, acceptedCount, lastCode, rowsFrom, tableOf, session}
+use Rattle.session.specs.Progress.{startOf, Sizes, Finished, RunLeaves}
 
 -- ---- one call of those that are left
 
@@ -80,7 +85,7 @@ accepted-most n code = by (eqb code 0)
     by true = omega arith
     by false = omega arith
 
-module _ (commands tray text out₀ table₀ : List ℕ) where
+module _ (commands tray text out₀ table₀ records₀ : List ℕ) where
   abbrev pub all : List Made
   all = calls readLength freshCard (record { command = commands; tray = tray; text = text; out = out₀ })
 
@@ -88,22 +93,33 @@ module _ (commands tray text out₀ table₀ : List ℕ) where
   unfoldable pub left : Progress → List ℕ → List Made
   left p out = pick (eqb (p .code) 0) (calls (readLength - p .calls) (seenOf (p .card)) (here p commands tray text out)) []
 
-  pub record Sofar (p : Progress) (out table : List ℕ) : Type 0 where
+  -- what the calls so far have written, and what those that are left will
+  pub record Sofar (p : Progress) (out table records : List ℕ) : Type 0 where
     pub command-in : p .command ≤ length commands
     pub text-in : p .«data» ≤ length text
-    pub out-in : p .out ≤ length out
-    pub out-length : length out ≡ length out₀
-    pub table-length : 262400 ≤ length table
     pub table-in : p .table ≤ 32 * (p .calls + 1)
+    pub records-in : p .records ≤ 10 * acceptedOf (p .calls) (p .code)
     pub used : 2 * acceptedOf (p .calls) (p .code) ≤ p .command
-    pub bytes : take (p .out) out ++ writtenBy (left p out) ≡ writtenBy all
-    pub unwritten : drop (p .out) out ≡ drop (p .out) out₀
-    pub rows : take (p .table) table ++ rowsFrom (p .calls + 1) (left p out) ≡ columns ++ rowsFrom 1 all
-    pub unprinted : drop (p .table) table ≡ drop (p .table) table₀
+    pub bytes : Gathering (writtenBy all) (writtenBy (left p out)) 0 out₀ out (p .out)
+    pub rows : Gathering (rowsFrom 1 all) (rowsFrom (p .calls + 1) (left p out)) 23 table₀ table (p .table)
+    pub noted : Gathering (recordsBy all) (recordsBy (left p out)) 0 records₀ records (p .records)
     pub count : acceptedOf (p .calls) (p .code) + acceptedCount (left p out) ≡ acceptedCount all
     pub last-code : lastCode (p .code) (left p out) ≡ lastCode 0 all
 
-  module _ (sizes : Sizes commands text out₀ table₀) (p : Progress) (out table : List ℕ) (s : Sofar p out table) (zero-code : p .code ≡ 0) (more : p .command < length commands) where
+  module _ (p : Progress) (out table records : List ℕ) (s : Sofar p out table records) where
+    pub out-length : length out ≡ length out₀
+    out-length = behind-length (s .bytes .behind)
+
+    pub table-length : length table ≡ length table₀
+    table-length = behind-length (s .rows .behind)
+
+    pub records-length : length records ≡ length records₀
+    records-length = behind-length (s .noted .behind)
+
+    out-in : p .out ≤ length out
+    out-in = omega (arith, s .bytes .behind .fits, out-length)
+
+  module _ (sizes : Sizes commands text out₀ table₀ records₀) (p : Progress) (out table records : List ℕ) (s : Sofar p out table records) (zero-code : p .code ≡ 0) (more : p .command < length commands) where
     abbrev x : Made
     x = next p commands tray text out
 
@@ -111,37 +127,43 @@ module _ (commands tray text out₀ table₀ : List ℕ) where
     unfolding acceptedOf
     all-accepted = ap (λ (b : Bool). pick b (p .calls) (p .calls - 1)) (eq-eqb (p .code) 0 zero-code)
 
-    calls-below : p .calls < 8193
-    calls-below = let u = s .used in let e = all-accepted in let c = s .command-in in let f = sizes .commands-few in omega arith
+    calls-below : p .calls < 8192
+    calls-below = let u = s .used in let e = all-accepted in let f = sizes .commands-few in omega arith
 
-    pub ready : Ready p commands text out table
+    pub ready : Ready p commands text out table records
     ready =
         let c = calls-below in
         let t = s .table-in in
-        let l = s .table-length in
-        record { command-in = s .command-in; text-in = s .text-in; out-in = s .out-in; row-fits = omega arith; calls-few = omega arith }
+        let l = table-length p out table records s in
+        let r = sizes .table-room in
+        let n = s .records-in in
+        let m = records-length p out table records s in
+        let k = sizes .records-room in
+        let e = all-accepted in
+        record { command-in = s .command-in; text-in = s .text-in; out-in = out-in p out table records s; row-fits = omega arith; record-fits = omega arith; calls-few = omega arith }
 
     -- what is lent, and what the call did of it
     abbrev h : Call
     h = here p commands tray text out
 
-    written-in : x .out ≡ take (x .written) (x .out) ++ drop (x .written) (h .out)
-    unfolding next made
-    written-in =
-        let w = cardStep (seenOf (p .card)) h .outcome .output in
-        ap (λ (l : List ℕ). l ++ drop (length w) (h .out)) (sym (take-at w (drop (length w) (h .out)) (length w) refl))
-
     command-left : length (h .command) ≡ length commands - p .command
     unfolding here
     command-left = length-drop (p .command) commands
 
-    module _ (q : Progress) (out' table' : List ℕ) (t : Turned p commands tray text out table q out' table') (kept : length out' ≡ length out) where
-      out-front : length (take (p .out) out) ≡ p .out
-      out-front = length-take-le (p .out) out (s .out-in)
+    -- what is behind the bytes that it wrote
+    unwritten : drop (x .written) (x .out) ≡ drop (x .written) (drop (p .out) out)
+    unfolding next made here
+    unwritten = let w = cardStep (seenOf (p .card)) h .outcome .output in drop-at w (drop (length w) (drop (p .out) out)) (length w) refl
 
-      out-behind : (k : ℕ) → drop (p .out + k) out' ≡ drop k (x .out)
-      out-behind k =
-          ap₂ (λ (l : List ℕ) (n : ℕ). drop (n + k) l) (t .out-is) (sym out-front) ∙ drop-append-add (take (p .out) out) (x .out) k
+    written-fits : length (take (x .written) (x .out)) ≡ x .written
+    unfolding next made
+    written-fits =
+        let w = cardStep (seenOf (p .card)) h .outcome .output in
+        length-take-le (length w) (w ++ drop (length w) (h .out)) (omega (arith, length-append w (drop (length w) (h .out))))
+
+    module _ (q : Progress) (out' table' records' : List ℕ) (t : Turned p commands tray text out table records q out' table' records') where
+      written-is : q .out ≡ p .out + x .written
+      written-is = t .out-is .end ∙ ap (λ (n : ℕ). p .out + n) written-fits
 
       lent-next : here q commands tray text out' ≡ rest h x
       unfolding here rest
@@ -150,7 +172,8 @@ module _ (commands tray text out₀ table₀ : List ℕ) where
           ap (λ (n : ℕ). drop n commands) (t .command-is) ∙ sym (drop-drop (x .used-command) (p .command) commands) in
           let d : drop (q .«data») text ≡ drop (x .used-data) (drop (p .«data») text) =
           ap (λ (n : ℕ). drop n text) (t .text-is) ∙ sym (drop-drop (x .used-data) (p .«data») text) in
-          let o : drop (q .out) out' ≡ drop (x .written) (x .out) = ap (λ (n : ℕ). drop n out') (t .written-is) ∙ out-behind (x .written) in
+          let o : drop (q .out) out' ≡ drop (x .written) (x .out) =
+          behind-rest (t .out-is) (q .out) (omega arith) ∙ ap (λ (n : ℕ). drop n out) written-is ∙ sym (drop-drop (x .written) (p .out) out) ∙ sym unwritten in
           λ i. record { command = c i; tray = tray; text = d i; out = o i }
 
       left-is : left p out ≡ x ∷ left q out'
@@ -176,18 +199,6 @@ module _ (commands tray text out₀ table₀ : List ℕ) where
       unfolding next made
       byte = code-few (seenOf (p .card)) h
 
-      written-fits : x .written ≤ length (x .out)
-      unfolding next made
-      written-fits =
-          let w = cardStep (seenOf (p .card)) h .outcome .output in
-          omega (arith, length-append w (drop (length w) (h .out)))
-
-      out-fits : p .out + x .written ≤ length out
-      out-fits =
-          let e : length out' ≡ length (take (p .out) out ++ x .out) = ap length (t .out-is) in
-          let f = written-fits in
-          omega (arith, length-append (take (p .out) out) (x .out), out-front)
-
       text-left : length (h .text) ≡ length text - p .«data»
       unfolding here
       text-left = length-drop (p .«data») text
@@ -199,89 +210,73 @@ module _ (commands tray text out₀ table₀ : List ℕ) where
           let c = sizes .commands-few in
           let d = sizes .text-few in
           let o = sizes .out-few in
-          let l = s .out-length in
-          let f = out-fits in
+          let l = out-length p out table records s in
+          let f = t .out-is .fits in
+          let g = written-is in
           let b = byte in
           let e = t .code-is in
           row-few (p .calls + 1) (q .code) (x .used-command) (x .used-data) (x .written) (omega arith) (omega arith) (omega (arith, command-left)) (omega (arith, text-left))
           (omega arith)
 
-      used-more : 2 * acceptedOf (q .calls) (q .code) ≤ q .command
+      -- one accepted call more, or none
+      accepted-more : acceptedOf (q .calls) (q .code) ≡ acceptedOf (p .calls) (p .code) + pick (eqb (x .code) 0) 1 0
       unfolding acceptedOf
-      used-more = by (eqb (q .code) 0) refl
+      accepted-more = by (eqb (q .code) 0) ∙ ap (λ (k : ℕ). acceptedOf (p .calls) (p .code) + pick (eqb k 0) 1 0) (t .code-is)
         where
-          by : (b : Bool) → eqb (q .code) 0 ≡ b → 2 * pick b (q .calls) (q .calls - 1) ≤ q .command
-          by true e =
-              let m = some (sym (t .code-is) ∙ eqb-true (q .code) 0 e) in
-              omega (arith, t .command-is, t .calls-is, s .used, all-accepted)
-          by false e = omega (arith, t .command-is, t .calls-is, s .used, all-accepted)
-
-      bytes-more : take (q .out) out' ++ writtenBy (left q out') ≡ writtenBy all
-      unfolding writtenBy
-      bytes-more =
-          let e : take (q .out) out' ≡ take (p .out) out ++ take (x .written) (x .out) =
-          ap₂ (λ (n : ℕ) (l : List ℕ). take n l) (t .written-is ∙ ap (λ (n : ℕ). n + x .written) (sym out-front)) (t .out-is)
-          ∙ take-append-add (take (p .out) out) (x .out) (x .written) in
-          ap (λ (l : List ℕ). l ++ writtenBy (left q out')) e
-          ∙ append-assoc (take (p .out) out) (take (x .written) (x .out)) (writtenBy (left q out'))
-          ∙ ap (λ (xs : List Made). take (p .out) out ++ writtenBy xs) (sym left-is) ∙ s .bytes
-
-      unwritten-more : drop (q .out) out' ≡ drop (q .out) out₀
-      unfolding here
-      unwritten-more =
-          ap (λ (n : ℕ). drop n out') (t .written-is) ∙ out-behind (x .written)
-          ∙ ap (drop (x .written)) written-in
-          ∙ drop-at (take (x .written) (x .out)) (drop (x .written) (h .out)) (x .written) (length-take-le (x .written) (x .out) written-fits)
-          ∙ ap (drop (x .written)) (s .unwritten) ∙ drop-drop (x .written) (p .out) out₀ ∙ ap (λ (n : ℕ). drop n out₀) (sym (t .written-is))
-
-      rows-more : take (q .table) table' ++ rowsFrom (q .calls + 1) (left q out') ≡ columns ++ rowsFrom 1 all
-      unfolding rowsFrom
-      rows-more =
-          let r : ℕ → List ℕ = λ k. callRow (p .calls + 1) k (x .used-command) (x .used-data) (x .written) in
-          let n : q .calls + 1 ≡ suc (p .calls + 1) = let e = t .calls-is in omega arith in
-          ap₂ (λ (l : List ℕ) (k : ℕ). l ++ rowsFrom k (left q out')) (behind-front (t .table-is)) n
-          ∙ append-assoc (take (p .table) table) (r (q .code)) (rowsFrom (suc (p .calls + 1)) (left q out'))
-          ∙ ap (λ (k : ℕ). take (p .table) table ++ (r k ++ rowsFrom (suc (p .calls + 1)) (left q out'))) (t .code-is)
-          ∙ ap (λ (xs : List Made). take (p .table) table ++ rowsFrom (p .calls + 1) xs) (sym left-is) ∙ s .rows
-
-      unprinted-more : drop (q .table) table' ≡ drop (q .table) table₀
-      unprinted-more =
-          let r = callRow (p .calls + 1) (q .code) (x .used-command) (x .used-data) (x .written) in
-          let e = t .table-is .end in
-          behind-rest (t .table-is) (q .table) (omega arith)
-          ∙ ap (λ (n : ℕ). drop n table) e ∙ sym (drop-drop (length r) (p .table) table)
-          ∙ ap (drop (length r)) (s .unprinted) ∙ drop-drop (length r) (p .table) table₀ ∙ ap (λ (n : ℕ). drop n table₀) (sym e)
-
-      count-more : acceptedOf (q .calls) (q .code) + acceptedCount (left q out') ≡ acceptedCount all
-      unfolding acceptedOf acceptedCount
-      count-more =
-          by (eqb (q .code) 0)
-          ∙ (λ i. acceptedOf (p .calls) (p .code) + (pick (eqb (t .code-is i) 0) 1 0 + acceptedCount (left q out')))
-          ∙ ap (λ (xs : List Made). acceptedOf (p .calls) (p .code) + acceptedCount xs) (sym left-is) ∙ s .count
-        where
-          by : (b : Bool) → pick b (q .calls) (q .calls - 1) + acceptedCount (left q out') ≡ acceptedOf (p .calls) (p .code) + (pick b 1 0 + acceptedCount (left q out'))
+          by : (b : Bool) → pick b (q .calls) (q .calls - 1) ≡ acceptedOf (p .calls) (p .code) + pick b 1 0
           by true = omega (arith, t .calls-is, all-accepted)
           by false = omega (arith, t .calls-is, all-accepted)
+
+      used-more : 2 * acceptedOf (q .calls) (q .code) ≤ q .command
+      used-more = let a = accepted-more in by (eqb (x .code) 0) refl a
+        where
+          by : (b : Bool) → eqb (x .code) 0 ≡ b → acceptedOf (q .calls) (q .code) ≡ acceptedOf (p .calls) (p .code) + pick b 1 0 → 2 * acceptedOf (q .calls) (q .code) ≤ q .command
+          by true e a = let m = some (eqb-true (x .code) 0 e) in omega (arith, t .command-is, s .used)
+          by false e a = omega (arith, t .command-is, s .used)
+
+      records-more : q .records ≤ 10 * acceptedOf (q .calls) (q .code)
+      unfolding next made
+      records-more = let m = record-few x in omega (arith, t .records-is .end, s .records-in, accepted-more)
+
+      -- the next piece of each buffer
+      next-bytes : writtenBy (left p out) ≡ take (x .written) (x .out) ++ writtenBy (left q out')
+      unfolding writtenBy
+      next-bytes = ap writtenBy left-is
+
+      next-row : rowsFrom (p .calls + 1) (left p out) ≡ callRow (p .calls + 1) (q .code) (x .used-command) (x .used-data) (x .written) ++ rowsFrom (q .calls + 1) (left q out')
+      unfolding rowsFrom
+      next-row =
+          let n : suc (p .calls + 1) ≡ q .calls + 1 = let e = t .calls-is in omega arith in
+          ap (rowsFrom (p .calls + 1)) left-is
+          ∙ (λ i. callRow (p .calls + 1) (sym (t .code-is) i) (x .used-command) (x .used-data) (x .written) ++ rowsFrom (n i) (left q out'))
+
+      next-record : recordsBy (left p out) ≡ recordsOf (usedBy (x .card) (did x)) ++ recordsBy (left q out')
+      unfolding usesBy
+      next-record = ap recordsBy left-is ∙ records-append (usedBy (x .card) (did x)) (usesBy (left q out'))
+
+      count-more : acceptedOf (q .calls) (q .code) + acceptedCount (left q out') ≡ acceptedCount all
+      unfolding acceptedCount
+      count-more =
+          ap (λ (n : ℕ). n + acceptedCount (left q out')) accepted-more
+          ∙ add-assoc (acceptedOf (p .calls) (p .code)) (pick (eqb (x .code) 0) 1 0) (acceptedCount (left q out'))
+          ∙ ap (λ (xs : List Made). acceptedOf (p .calls) (p .code) + acceptedCount xs) (sym left-is) ∙ s .count
 
       last-more : lastCode (q .code) (left q out') ≡ lastCode 0 all
       unfolding lastCode
       last-more = ap (λ (k : ℕ). lastCode k (left q out')) (t .code-is) ∙ ap (lastCode (p .code)) (sym left-is) ∙ s .last-code
 
-      pub sofar-next : Sofar q out' table'
+      pub sofar-next : Sofar q out' table' records'
       sofar-next =
           let w = within in
           record {
             command-in = omega (arith, t .command-is, command-left, s .command-in);
             text-in = omega (arith, t .text-is, text-left, s .text-in);
-            out-in = omega (arith, t .written-is, out-fits);
-            out-length = kept ∙ s .out-length;
-            table-length = omega (arith, behind-length (t .table-is), s .table-length);
             table-in = omega (arith, t .table-is .end, row-fits, s .table-in, t .calls-is);
+            records-in = records-more;
             used = used-more;
-            bytes = bytes-more;
-            unwritten = unwritten-more;
-            rows = rows-more;
-            unprinted = unprinted-more;
+            bytes = gather-more (subst (λ (l : List ℕ). Gathering (writtenBy all) l 0 out₀ out (p .out)) next-bytes (s .bytes)) (t .out-is);
+            rows = gather-more (subst (λ (l : List ℕ). Gathering (rowsFrom 1 all) l 23 table₀ table (p .table)) next-row (s .rows)) (t .table-is);
+            noted = gather-more (subst (λ (l : List ℕ). Gathering (recordsBy all) l 0 records₀ records (p .records)) next-record (s .noted)) (t .records-is);
             count = count-more;
             last-code = last-more;
           }
@@ -299,21 +294,18 @@ module _ (commands tray text out₀ table₀ : List ℕ) where
 
   -- ---- the start and the end
 
-  pub sofar-start : Sizes commands text out₀ table₀ → Sofar (startOf 23) out₀ table₀
+  pub sofar-start : Sizes commands text out₀ table₀ records₀ → Sofar (startOf 23) out₀ table₀ records₀
   unfolding left here acceptedOf cardIn lineIn
   sofar-start z =
       record {
         command-in = omega arith;
         text-in = omega arith;
-        out-in = omega arith;
-        out-length = refl;
-        table-length = z .table-room;
         table-in = lit≤ tt;
+        records-in = lit≤ tt;
         used = lit≤ tt;
-        bytes = refl;
-        unwritten = refl;
-        rows = ap (λ (l : List ℕ). l ++ rowsFrom 1 all) (z .named);
-        unprinted = refl;
+        bytes = gather-none (omega arith);
+        rows = gather-none (omega (arith, z .table-room));
+        noted = gather-none (omega arith);
         count = zero-add (acceptedCount all);
         last-code = refl;
       }
@@ -328,18 +320,16 @@ module _ (commands tray text out₀ table₀ : List ℕ) where
           let h = f (eqb-true (p .code) 0 e) in
           calls-none (readLength - p .calls) (seenOf (p .card)) (here p commands tray text out) (length-drop (p .command) commands ∙ (let z : length commands - p .command ≡ 0 = omega arith in z))
 
-  pub sofar-end : Sizes commands text out₀ table₀ → (p : Progress) (out table : List ℕ) → Sofar p out table → (p .code ≡ 0 → length commands ≤ p .command) →
-      Finished commands tray text out₀ table₀ p out table
-  unfolding writtenBy rowsFrom acceptedCount lastCode
-  sofar-end z p out table s f =
+  pub sofar-end : Sizes commands text out₀ table₀ records₀ → (p : Progress) (out table records : List ℕ) → Sofar p out table records → (p .code ≡ 0 → length commands ≤ p .command) →
+      Finished commands tray text out₀ table₀ records₀ p out table records
+  unfolding writtenBy rowsFrom usesBy recordsOf acceptedCount lastCode
+  sofar-end z p out table records s f =
       let e = none-left p out f in
       record {
-        bytes = sym (append-nil (take (p .out) out)) ∙ ap (λ (xs : List Made). take (p .out) out ++ writtenBy xs) (sym e) ∙ s .bytes;
-        unwritten = s .unwritten;
-        out-in = omega (arith, s .out-in, s .out-length);
-        rows = sym (append-nil (take (p .table) table)) ∙ ap (λ (xs : List Made). take (p .table) table ++ rowsFrom (p .calls + 1) xs) (sym e) ∙ s .rows;
-        unprinted = s .unprinted;
-        table-in = omega (arith, s .table-in, s .table-length, s .used, s .command-in, z .commands-few, accepted-most (p .calls) (p .code));
+        bytes = gather-all (subst (λ (xs : List Made). Gathering (writtenBy all) (writtenBy xs) 0 out₀ out (p .out)) e (s .bytes));
+        rows = gather-all (subst (λ (xs : List Made). Gathering (rowsFrom 1 all) (rowsFrom (p .calls + 1) xs) 23 table₀ table (p .table)) e (s .rows));
+        table-in = omega (arith, s .table-in, table-length p out table records s, z .table-room, s .used, s .command-in, z .commands-few, accepted-most (p .calls) (p .code));
+        noted = gather-all (subst (λ (xs : List Made). Gathering (recordsBy all) (recordsBy xs) 0 records₀ records (p .records)) e (s .noted));
         count = (let k : acceptedOf (p .calls) (p .code) ≡ acceptedOf (p .calls) (p .code) + 0 = omega arith in k)
             ∙ ap (λ (xs : List Made). acceptedOf (p .calls) (p .code) + acceptedCount xs) (sym e) ∙ s .count;
         last-code = ap (lastCode (p .code)) (sym e) ∙ s .last-code;
@@ -347,46 +337,33 @@ module _ (commands tray text out₀ table₀ : List ℕ) where
 
 -- ---- what a run begins with, and what it leaves
 
-pub sizes-of : (commands text out table c d table' : List ℕ) → c ≡ take readLength commands → d ≡ take readLength text → length out ≡ 65536 → length table ≡ 262400 →
-    table' ≡ columns ++ drop 23 table → Sizes c d out table'
-sizes-of commands text out table c d table' ec ed lo lt et =
+pub sizes-of : (commands text : List ℕ) {out table table' records c d : List ℕ} {r : ℕ} → c ≡ take readLength commands → d ≡ take readLength text → length out ≡ 65536 → length table ≡ 262400 →
+    length records ≡ 81920 → Behind columns 0 table table' r → Sizes c d out table' records
+sizes-of commands text ec ed lo lt lr b =
     record {
       commands-few = rw ec (length-take-most readLength commands);
       text-few = rw ed (length-take-most readLength text);
       out-few = omega arith;
-      table-room = let l = ap length et ∙ length-append columns (drop 23 table) in omega (arith, length-drop 23 table);
-      named = ap (take 23) et ∙ take-at columns (drop 23 table) 23 refl;
+      table-room = let l = behind-length b in omega arith;
+      records-room = omega arith;
     }
   where
     length-take-most : (n : ℕ) (l : List ℕ) → length (take n l) ≤ n
     length-take-most n l = omega (arith, length-take n l, min-le-left n (length l))
 
--- what is behind the printed text is as it was before the column names were put
-unprinted-all : (table table₁ : List ℕ) (n : ℕ) (l m : List ℕ) → table₁ ≡ columns ++ drop 23 table → n ≡ length ((columns ++ l) ++ m) → drop n table₁ ≡ drop n table
-unprinted-all table table₁ n l m et en =
-    let k : n ≡ 23 + length (l ++ m) = en ∙ ap length (append-assoc columns l m) ∙ length-append columns (l ++ m) in
-    ap₂ drop k et ∙ drop-append-add columns (drop 23 table) (length (l ++ m)) ∙ drop-drop (length (l ++ m)) 23 table ∙ ap (λ (x : ℕ). drop x table) (sym k)
-
-pub leaves : (commands tray text out table c t d : List ℕ) → c ≡ take readLength commands → t ≡ take readLength tray → d ≡ take readLength text →
-    (p : Progress) (out' table₁ table₂ table' : List ℕ) (k e : ℕ) → length out' ≡ length out → table₁ ≡ columns ++ drop 23 table → Finished c t d out table₁ p out' table₂ →
-    k ≡ acceptedOf (p .calls) (p .code) → Behind (endOf k (p .code)) (p .table) table₂ table' e → RunLeaves (session commands tray text out) out table out' table' (record { written = p .out; printed = e })
+pub leaves : (commands tray text out table records c t d : List ℕ) → c ≡ take readLength commands → t ≡ take readLength tray → d ≡ take readLength text →
+    (p : Progress) {out' table₁ table₂ table' records' : List ℕ} {k e r : ℕ} → Behind columns 0 table table₁ r → Finished c t d out table₁ records p out' table₂ records' →
+    k ≡ acceptedOf (p .calls) (p .code) → Behind (endOf k (p .code)) (p .table) table₂ table' e →
+    RunLeaves (session commands tray text out) out table records out' table' records' (record { written = p .out; printed = e; recorded = p .records })
 unfolding tableOf
-leaves commands tray text out table c t d ec et ed p out' table₁ table₂ table' k e l named f ek b =
+leaves commands tray text out table records c t d ec et ed p {out'} {table₁} {table₂} {table'} {records'} {k} {e} {r} named f ek b =
     let xs = session commands tray text out in
     let same : calls readLength freshCard (callOf c t d out) ≡ xs = λ i. calls readLength freshCard (callOf (ec i) (et i) (ed i) out) in
-    let bytes : take (p .out) out' ≡ writtenBy xs = f .bytes ∙ ap writtenBy same in
-    let rows : take (p .table) table₂ ≡ columns ++ rowsFrom 1 xs = f .rows ∙ ap (λ (ys : List Made). columns ++ rowsFrom 1 ys) same in
+    let at : r ≡ 23 = named .end in
+    let bytes = behind-start (subst (λ (ys : List Made). Behind (writtenBy ys) 0 out out' (p .out)) same (f .bytes)) in
+    let noted = behind-start (subst (λ (ys : List Made). Behind (recordsBy ys) 0 records records' (p .records)) same (f .noted)) in
+    let rows = subst (λ (ys : List Made). Behind (rowsFrom 1 ys) 23 table₁ table₂ (p .table)) same (f .rows) in
     let last : endOf k (p .code) ≡ endOf (acceptedCount xs) (lastCode 0 xs) =
     ap₂ endOf (ek ∙ f .count ∙ ap acceptedCount same) (f .last-code ∙ ap (lastCode 0) same) in
-    let text-is : take e table' ≡ tableOf xs = behind-front b ∙ ap₂ _++_ rows last in
-    let printed-is : e ≡ length (tableOf xs) = sym (length-take-le e table' (omega (arith, b .fits, behind-length b))) ∙ ap length text-is in
-    let n = length (endOf k (p .code)) in
-    let rest : drop e table' ≡ drop e table =
-    behind-rest b e (omega arith) ∙ ap (λ (x : ℕ). drop x table₂) (b .end) ∙ sym (drop-drop n (p .table) table₂) ∙ ap (drop n) (f .unprinted) ∙ drop-drop n (p .table) table₁
-    ∙ ap (λ (x : ℕ). drop x table₁) (sym (b .end)) ∙ unprinted-all table table₁ e (rowsFrom 1 xs) (endOf (acceptedCount xs) (lastCode 0 xs)) named printed-is in
-    record {
-      written = sym (length-take-le (p .out) out' (omega (arith, l, f .out-in))) ∙ ap length bytes;
-      out-is = sym (take-append-drop (p .out) out') ∙ ap₂ _++_ bytes (f .unwritten);
-      printed = printed-is;
-      table-is = sym (take-append-drop e table') ∙ ap₂ _++_ text-is rest;
-    }
+    let printed = behind-start (behind-more (behind-more (subst (Behind columns 0 table table₁) at named) rows) (subst (λ (l : List ℕ). Behind l (p .table) table₂ table' e) last b)) in
+    record { written = bytes .0; out-is = bytes .1; printed = printed .0; table-is = printed .1; recorded = noted .0; records-is = noted .1 }

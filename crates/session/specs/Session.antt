@@ -1,24 +1,23 @@
 -- The program (document 01, `cardrun`): commands are run until the end or the first refusal, each call with what is left of the commands, the data and out, and the whole tray; the written
--- bytes joined, and the table that is printed.
+-- bytes joined, the records of its crypts, and the table that is printed.
 -- Assumes nothing.
 use mathlib.Core.List.{List, [], _∷_, _++_}
 use Prim.Native.Nat.{ℕ, zero, suc, _+_}
 use lib.Dec.{eqb}
 use lib.ListN.{length, take, drop}
 use Rattle.words.specs.Tests.{pick}
-use Rattle.machine.specs.Machine.{Call, Seen, cardStep, freshCard}
-use Rattle.machine.specs.Calls.{Made, madeOf}
+use Rattle.machine.specs.Machine.{Call, Seen, freshCard}
+use Rattle.machine.specs.Calls.{Made}
+use Rattle.lists.specs.Logs.{did}
+use Rattle.records.specs.Records.{Use, recordsOf}
 use Rattle.session_table.specs.Table.{columns, callRow, endOf}
+use Rattle.session_call.specs.Turn.{made, usedBy}
 
 -- ---- the calls
 
 -- only so many bytes of each file are read
 abbrev pub readLength : ℕ
 readLength = 16384
-
--- a call on a card that is seen so, with all that came of it
-unfoldable pub made : Seen → Call → Made
-made c a = madeOf a (cardStep c a)
 
 -- what the next call is lent: what is left of the commands, of the data and of out, and the tray
 unfoldable pub rest : Call → Made → Call
@@ -51,6 +50,15 @@ session commands tray text out = calls readLength freshCard (lent commands tray 
 unfoldable pub writtenBy : List Made → List ℕ
 writtenBy [] = []
 writtenBy (x ∷ xs) = take (x .written) (x .out) ++ writtenBy xs
+
+-- what is recorded of all calls, in order
+unfoldable pub usesBy : List Made → List Use
+usesBy [] = []
+usesBy (x ∷ xs) = usedBy (x .card) (did x) ++ usesBy xs
+
+-- their records, joined
+abbrev pub recordsBy : List Made → List ℕ
+recordsBy xs = recordsOf (usesBy xs)
 
 -- accepted calls
 unfoldable pub acceptedCount : List Made → ℕ

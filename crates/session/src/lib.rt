@@ -1,13 +1,14 @@
 // A run of the program: commands are run until the end or the first refusal (document 01, `cardrun`), the written bytes joined in one
-// buffer and the table of calls written to another.
+// buffer, the table of calls written to another, and the records of the crypts to a third.
 ghost use mathlib.Core.Path.{_≡_};
 ghost use lib.ListN.{take};
 ghost use Rattle.session.specs.Session.{readLength};
-ghost use Rattle.session.specs.Progress.{startOf, Ready, Turned, Sizes, Finished, RunPromise};
-use card::Card;
+ghost use Rattle.session.specs.Progress.{startOf, Sizes, Finished, RunPromise};
+use session_call::Progress;
+use session_call::turn;
 use session_table::accepted_of;
+use session_table::put_columns;
 use session_table::put_end;
-use session_table::put_row;
 
 // Only so many bytes of each file are read.
 pub const READ: usize = 16384;
@@ -17,62 +18,14 @@ pub const OUT: usize = 65536;
 
 pub const TABLE: usize = 262400;
 
-// How far the run has come: the card, the bytes used of commands and data, the bytes written to out and to the table, calls and the last code.
-pub struct Progress {
-    pub card: Card,
-    pub command: usize,
-    pub data: usize,
-    pub out: usize,
-    pub table: usize,
-    pub calls: usize,
-    pub code: u8,
-}
+// The bytes of the most records: ten for each accepted call, of which there are at most 8,192.
+pub const RECORDS: usize = 81920;
 
-// What a run leaves: the bytes written to out and to the table.
+// What a run leaves: the bytes written to out, to the table and to the records.
 pub struct Ended {
     pub written: usize,
     pub printed: usize,
-}
-
-// One call more, on what is left of the commands, of the data and of out; its line goes to the table.
-fn turn<'a>(
-    p: Progress,
-    commands: &'a [u8],
-    tray: &'a [u8],
-    text: &[u8],
-    out: &mut [u8],
-    table: &mut [u8],
-) -> Progress
-    requires { ⌜ Ready p (now commands) (now text) (now out) (now table) ⌝ }
-    ensures { λ r. ⌜ Turned p (now (commands .entry)) (now (tray .entry)) (now (text .entry)) (now (out .entry)) (now (table .entry))
-        r (now (out .exit)) (now (table .exit)) ⌝ }
-{
-    let i = p.command;
-    let j = p.data;
-    let k = p.out;
-    let at = p.table;
-    let call = p.calls + 1;
-    let card = p.card;
-    let answer = card::call(card, &commands[i..], tray, &text[j..], &mut out[k..]);
-    let outcome = answer.outcome;
-    let code = outcome.code;
-    let used = outcome.used_command;
-    let taken = outcome.used_data;
-    let written = outcome.written;
-    let end = put_row(call, code, used, taken, written, at, table);
-    let kept = answer.card;
-    let command = i + used;
-    let data = j + taken;
-    let filled = k + written;
-    Progress {
-        card: kept,
-        command,
-        data,
-        out: filled,
-        table: end,
-        calls: call,
-        code,
-    }
+    pub recorded: usize,
 }
 
 // A run at its start: a fresh card, and a table of so many bytes.
@@ -86,6 +39,7 @@ fn start(table: usize) -> Progress
         data: 0,
         out: 0,
         table,
+        records: 0,
         calls: 0,
         code: 0,
     }
@@ -98,15 +52,16 @@ fn run_calls<'a>(
     text: &[u8],
     out: &mut [u8],
     table: &mut [u8],
+    records: &mut [u8],
 ) -> Progress
-    requires { ⌜ Sizes (now commands) (now text) (now out) (now table) ⌝ }
-    ensures { λ r. ⌜ Finished (now (commands .entry)) (now (tray .entry)) (now (text .entry)) (now (out .entry)) (now (table .entry))
-        r (now (out .exit)) (now (table .exit)) ⌝ }
+    requires { ⌜ Sizes (now commands) (now text) (now out) (now table) (now records) ⌝ }
+    ensures { λ r. ⌜ Finished (now (commands .entry)) (now (tray .entry)) (now (text .entry)) (now (out .entry)) (now (table .entry)) (now (records .entry))
+        r (now (out .exit)) (now (table .exit)) (now (records .exit)) ⌝ }
 {
     let n = commands.len();
     let mut p = start(23);
     while p.code == 0 && p.command < n {
-        p = turn(p, commands, tray, text, out, table);
+        p = turn(p, commands, tray, text, out, table, records);
     }
     p
 }
@@ -120,22 +75,24 @@ fn first(s: &[u8]) -> &[u8]
     &s[..e]
 }
 
-// Runs the commands. The written bytes go to the start of out and the table to the start of table; what is behind them stays.
+// Runs the commands. The written bytes go to the start of out, the table to the start of table and the records of accepted crypts to the
+// start of records; what is behind them stays.
 pub fn run<'a>(
     commands: &'a [u8],
     tray: &'a [u8],
     data: &[u8],
     out: &mut [u8; OUT],
     table: &mut [u8; TABLE],
+    records: &mut [u8; RECORDS],
 ) -> Ended
     ensures { λ r. ⌜ RunPromise (now (commands .entry)) (now (tray .entry)) (now («data» .entry)) (now (out .entry))
-        (now (table .entry)) (now (out .exit)) (now (table .exit)) r ⌝ }
+        (now (table .entry)) (now (records .entry)) (now (out .exit)) (now (table .exit)) (now (records .exit)) r ⌝ }
 {
     let c = first(commands);
     let t = first(tray);
     let d = first(data);
-    buffer::put(b"call code cmd data out\n", table);
-    let p = run_calls(c, t, d, out, table);
+    put_columns(table);
+    let p = run_calls(c, t, d, out, table, records);
     let calls = p.calls;
     let code = p.code;
     let at = p.table;
@@ -144,5 +101,6 @@ pub fn run<'a>(
     Ended {
         written: p.out,
         printed,
+        recorded: p.records,
     }
 }

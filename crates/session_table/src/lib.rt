@@ -1,11 +1,19 @@
-// The table that the program prints: a call's line and the last line, each behind what stands before it in a buffer; and how many calls were
-// accepted.
+// The table that the program prints: the column names, a call's line and the last line, each behind what stands before it in a buffer; and
+// how many calls were accepted.
 ghost use mathlib.Core.Path.{_≡_};
 ghost use Prim.Native.Nat.{_+_, _≤_};
 ghost use lib.ListN.{length};
 ghost use Rattle.text.specs.Text.{Behind};
-ghost use Rattle.session_table.specs.Table.{callRow, endOf, acceptedOf};
+ghost use Rattle.session_table.specs.Table.{columns, callRow, endOf, acceptedOf};
 use text::put_figure;
+
+// The column names go to the start of out. Returns where they end.
+pub fn put_columns(out: &mut [u8]) -> usize
+    requires { ⌜ 23 ≤ length (now out) ⌝ }
+    ensures { λ r. ⌜ Behind columns 0 (now (out .entry)) (now (out .exit)) r ⌝ }
+{
+    text::put(b"call code cmd data out\n", 0, out)
+}
 
 // A line of the table goes behind the first at bytes of out. Returns where it ends.
 pub fn put_row(
