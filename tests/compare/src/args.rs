@@ -1,14 +1,16 @@
 //! The command line: what to run, and how much of it.
 
-use std::path::PathBuf;
+use std::path::{Path, PathBuf};
 
-pub const USAGE: &str = "usage: compare [--lists N] [--seed S] [--only K] [--cardrun PATH] [--keep]
+pub const USAGE: &str =
+    "usage: compare [--lists N] [--seed S] [--only K] [--cardrun PATH] [--sheet PATH] [--keep]
 
-  --lists N       how many command lists to run after the named cases (500); with 0 the second implementation only checks itself
-  --seed S        the seed that the lists follow from (1)
-  --only K        run list K of the seed, no other and no named case
+  --lists N       how many command lists, and how many files for sheet, to run after the named cases (500); with 0 the second implementation only checks itself
+  --seed S        the seed that lists and files follow from (1)
+  --only K        run list K and file K of the seed, no other and no named case
   --cardrun PATH  the program to compare (target/bin/cardrun in the folder here or the next one above that has it)
-  --keep          leave every list's folder in place";
+  --sheet PATH    the same for the program sheet
+  --keep          leave every folder in place";
 
 #[derive(Debug, PartialEq, Eq)]
 pub struct Options {
@@ -16,13 +18,14 @@ pub struct Options {
     pub seed: u64,
     pub only: Option<u64>,
     pub cardrun: Option<PathBuf>,
+    pub sheet: Option<PathBuf>,
     pub keep: bool,
     pub help: bool,
 }
 
 impl Default for Options {
     fn default() -> Options {
-        Options { lists: 500, seed: 1, only: None, cardrun: None, keep: false, help: false }
+        Options { lists: 500, seed: 1, only: None, cardrun: None, sheet: None, keep: false, help: false }
     }
 }
 
@@ -37,6 +40,7 @@ pub fn read(arguments: impl IntoIterator<Item = String>) -> Result<Options, Stri
             "--seed" => options.seed = number(&value()?)?,
             "--only" => options.only = Some(number(&value()?)?),
             "--cardrun" => options.cardrun = Some(PathBuf::from(value()?)),
+            "--sheet" => options.sheet = Some(PathBuf::from(value()?)),
             "--keep" => options.keep = true,
             "--help" | "-h" => options.help = true,
             _ => return Err(format!("unknown argument {argument}")),
@@ -49,9 +53,10 @@ fn number(text: &str) -> Result<u64, String> {
     text.parse().map_err(|_| format!("{text} is not a whole number"))
 }
 
-/// The program's usual place, looked for from the current folder upwards; the bare path if it is nowhere.
-pub fn usual_place() -> PathBuf {
-    let place = PathBuf::from("target/bin/cardrun");
+/// The usual place of the program with this name, looked for from the current folder upwards; the bare path if it is
+/// nowhere.
+pub fn usual_place(program: &str) -> PathBuf {
+    let place = Path::new("target/bin").join(program);
     let here = std::env::current_dir().unwrap_or_default();
     let found = here.ancestors().map(|folder| folder.join(&place)).find(|path| path.is_file());
     found.unwrap_or(place)
@@ -68,9 +73,9 @@ mod tests {
     #[test]
     fn arguments_are_read() {
         assert_eq!(options(""), Ok(Options::default()));
-        let got = options("--lists 20 --seed 7 --only 3 --cardrun a/b --keep").unwrap();
-        let cardrun = Some(PathBuf::from("a/b"));
-        assert_eq!(got, Options { lists: 20, seed: 7, only: Some(3), cardrun, keep: true, help: false });
+        let got = options("--lists 20 --seed 7 --only 3 --cardrun a/b --sheet a/c --keep").unwrap();
+        let (cardrun, sheet) = (Some(PathBuf::from("a/b")), Some(PathBuf::from("a/c")));
+        assert_eq!(got, Options { lists: 20, seed: 7, only: Some(3), cardrun, sheet, keep: true, help: false });
         assert!(options("--lists").is_err());
         assert!(options("--lists many").is_err());
         assert!(options("--list 3").is_err());

@@ -1,6 +1,6 @@
-//! A second implementation of the cipher card, written from the documents and sharing neither code nor tables with
-//! the card's own sources, and what is needed to hold a card against it: named cases, command lists from a seed and
-//! subjects that run them.
+//! A second implementation of the cipher card and of the programs `cardrun` and `sheet`, written from the documents and
+//! sharing neither code nor tables with the card's own sources, and what is needed to hold a card and the programs
+//! against it: named cases, command lists and files of records from a seed, and subjects that run them.
 
 #![forbid(unsafe_code)]
 
@@ -38,10 +38,13 @@ pub mod parks;
 pub mod place;
 pub mod plain;
 pub mod plan;
+pub mod process;
 pub mod program;
 pub mod rabbit;
 pub mod random;
+pub mod record;
 pub mod report;
+pub mod sheet;
 pub mod snow2;
 pub mod spent;
 pub mod subject;

@@ -2,7 +2,7 @@
 
 use crate::program::Files;
 use crate::random::Random;
-use crate::{changing, damage, edges, fill, loading, odd, plain};
+use crate::{changing, damage, edges, fill, loading, odd, plain, record};
 
 /// A command list as the files that `cardrun` finds.
 pub struct List {
@@ -10,6 +10,10 @@ pub struct List {
     pub files: Files,
     /// What stands in `out.bin` before the run, if anything.
     pub stale: Option<Vec<u8>>,
+    /// What stands in `use.bin` before the run, if anything.
+    pub used: Option<Vec<u8>>,
+    /// How often the program is run on the files, one run after the other in one folder.
+    pub runs: usize,
 }
 
 /// The refusals that lists end in, in turn; those that others often hide come more than once.
@@ -52,7 +56,20 @@ pub fn list(seed: u64, number: u64) -> List {
         34 => ("damaged".to_string(), damage::list(random)),
         _ => ("out filled".to_string(), fill::list(random)),
     };
-    List { kind, files, stale }
+    let (used, runs) = before(Random::new(!seed, number));
+    List { kind, files, stale, used, runs }
+}
+
+/// What stands in `use.bin` before a list is run: as much as whole records, any bytes, none, or there is no file; and how
+/// often it is run.
+fn before(mut random: Random) -> (Option<Vec<u8>>, usize) {
+    let used = random.chance(40).then(|| {
+        let (whole, any) = (record::LENGTH * random.size(1, 40), random.size(1, 400));
+        let length = random.pick(&[0, whole, whole, any, any]);
+        random.bytes(length)
+    });
+    let runs = if random.chance(15) { 2 } else { 1 };
+    (used, runs)
 }
 
 #[cfg(test)]

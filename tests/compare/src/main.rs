@@ -1,6 +1,7 @@
 //! Checks the second implementation by annex C, document 01's cases and what named cases have written down, then
-//! holds `cardrun` against it on the named cases and on command lists from a seed. Ends with 0 if all agree and every
-//! number was met, else with 1; its last line says which, as `tests/second`.
+//! holds `cardrun` against it on the named cases and on command lists from a seed, and `sheet` on the named sheets and on
+//! files of records from that seed. Ends with 0 if all agree and every number was met, else with 1; its last line says
+//! which, as `tests/second`.
 
 #![forbid(unsafe_code)]
 
@@ -8,7 +9,8 @@ use compare::args::{self, Options};
 use compare::cardrun::Cardrun;
 use compare::report;
 use compare::subject::{self, Subject, Which};
-use compare::{annex, cases, named};
+use compare::{annex, cases, named, sheet};
+use std::path::PathBuf;
 use std::process::ExitCode;
 
 fn main() -> ExitCode {
@@ -30,15 +32,17 @@ fn run(options: &Options) -> Result<(), String> {
     println!("annex C: {} keystreams and sample states agree", annex::check()?);
     println!("document 01: {} cases hold", cases::check()?);
     println!("named cases: {} hold of the second implementation", named::check()?);
+    println!("named sheets: {} hold of the second implementation", sheet::named::check()?);
     if options.lists == 0 {
-        println!("second: its own checks passed, cardrun was not run");
+        println!("second: its own checks passed, no program was run");
         return Ok(());
     }
-    let program = options.cardrun.clone().unwrap_or_else(args::usual_place);
-    let mut subject = Cardrun::new(&program, options.keep)?;
+    let usual = |path: &Option<PathBuf>, name| path.clone().unwrap_or_else(|| args::usual_place(name));
+    let mut subject = Cardrun::new(&usual(&options.cardrun, "cardrun"), options.keep)?;
     println!("seed {}, {}", options.seed, subject.name());
     let which = Which { seed: options.seed, lists: options.lists, only: options.only };
-    let tally = subject::hold_all(&mut subject, &which, "compare")?;
+    let mut tally = subject::hold_all(&mut subject, &which, "compare")?;
+    tally.add(&sheet::held::hold_all(&usual(&options.sheet, "sheet"), options.keep, &which)?);
     print!("{}", report::summary(&tally));
     let missing = report::missing(&tally, false);
     if options.only.is_none() && !missing.is_empty() {

@@ -17,6 +17,7 @@ mod order;
 mod parks;
 mod positions;
 mod published;
+mod records;
 mod refusals;
 mod reuse;
 mod script;
@@ -43,6 +44,7 @@ pub fn all() -> Vec<Case> {
         images::cases(),
         limits::cases(),
         full::cases(),
+        records::cases(),
     ];
     groups.into_iter().flatten().collect()
 }
@@ -61,7 +63,7 @@ mod tests {
 
     #[test]
     fn cases_hold_and_have_names_of_their_own() {
-        assert_eq!(check(), Ok(2727));
+        assert_eq!(check(), Ok(2803));
         let cases = all();
         let names: HashSet<&str> = cases.iter().map(Case::name).collect();
         assert_eq!(names.len(), cases.len());

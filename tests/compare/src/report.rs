@@ -3,6 +3,7 @@
 use crate::changes::Change;
 use crate::ledger::Resume;
 use crate::loads::Load;
+use crate::sheet::REFUSALS;
 use crate::subject::Tally;
 use std::io::{self, IsTerminal};
 
@@ -10,28 +11,30 @@ use std::io::{self, IsTerminal};
 pub struct Progress {
     all: u64,
     every: u64,
+    what: &'static str,
 }
 
 impl Progress {
-    pub fn new(all: u64) -> Progress {
+    /// For so many of what is named.
+    pub fn new(all: u64, what: &'static str) -> Progress {
         let every = match (io::stderr().is_terminal(), all) {
             (_, 2_000..) => 1_000,
             (true, _) => 100,
             _ => u64::MAX,
         };
-        Progress { all, every }
+        Progress { all, every, what }
     }
 
     /// Says how far the run is, if it is time.
     pub fn at(&self, done: u64) {
         if done.is_multiple_of(self.every) {
-            eprintln!("{done} of {} lists", self.all);
+            eprintln!("{done} of {} {}", self.all, self.what);
         }
     }
 }
 
 /// The summary: named cases, lists, calls, bytes enciphered, how often each number was met, 255 only if it was, and how
-/// often each kind of resume, of change and of load.
+/// often each kind of resume, of change and of load; and of the programs' records and sheets, if there are any.
 pub fn summary(tally: &Tally) -> String {
     let mut text = format!("named cases {}\nlists {}\ncalls {}\n", tally.named, tally.lists, tally.calls);
     text.push_str(&format!("bytes enciphered {}\n", tally.bytes));
@@ -54,11 +57,23 @@ pub fn summary(tally: &Tally) -> String {
     for (name, count) in Load::NAMES.iter().zip(tally.loads) {
         text.push_str(&format!("{name}: {count}\n"));
     }
+    if tally.records + tally.sheets > 0 {
+        text.push_str(&format!("records {}\nsheets {}\nsheet met\n", tally.records, tally.sheets));
+        for (name, count) in sheet_names().zip(tally.reports) {
+            text.push_str(&format!("{name}: {count}\n"));
+        }
+    }
     text
 }
 
+/// What becomes of a sheet, as the report names it.
+fn sheet_names() -> impl Iterator<Item = String> {
+    ["reported".to_string()].into_iter().chain(REFUSALS.map(|number| number.to_string()))
+}
+
 /// The numbers and the kinds of resume, of change and of load that were never met. Number 15, 255 and an image from before the
-/// list are asked for only if cards are handed in: a fresh card doesn't come to them.
+/// list are asked for only if cards are handed in: a fresh card doesn't come to them. Records, and a sheet that is reported
+/// and one for each of its numbers, are asked for only if they aren't: these are of the programs.
 pub fn missing(tally: &Tally, handed_in: bool) -> Vec<String> {
     let numbers = (0..).zip(tally.codes).chain([(255, tally.damaged)]);
     let numbers = numbers.filter(|&(number, count)| count == 0 && (handed_in || ![15, 255].contains(&number)));
@@ -66,20 +81,27 @@ pub fn missing(tally: &Tally, handed_in: bool) -> Vec<String> {
     let resumes = resumes.filter(|&(kind, _)| handed_in || kind != Resume::Earlier as usize);
     let changes = Change::NAMES.iter().zip(tally.changes).filter(|&(_, count)| count == 0);
     let loads = Load::NAMES.iter().zip(tally.loads).filter(|&(_, count)| count == 0);
+    let sheets = sheet_names().zip(tally.reports).filter(|&(_, count)| count == 0 && !handed_in);
+    let records = (tally.records == 0 && !handed_in).then(|| "a record".to_string());
     let numbers = numbers.map(|(number, _)| number.to_string());
     let resumes = resumes.map(|(_, name)| format!("resume: {name}"));
     let changes = changes.map(|(name, _)| format!("change of key: {name}"));
-    numbers.chain(resumes).chain(changes).chain(loads.map(|(name, _)| format!("load: {name}"))).collect()
+    let loads = loads.map(|(name, _)| format!("load: {name}"));
+    let sheets = sheets.map(|(name, _)| format!("sheet: {name}"));
+    numbers.chain(resumes).chain(changes).chain(loads).chain(records).chain(sheets).collect()
 }
 
-/// The last line of a run in which nothing differed, for the part of the tests that it is: the named cases, if any, and
-/// the lists that were run.
+/// The last line of a run in which nothing differed, for the part of the tests that it is: the named cases, the lists and
+/// the sheets that were run; of what there was none it says nothing, but for the lists.
 pub fn verdict(part: &str, tally: &Tally) -> String {
-    let lists = counted(tally.lists, "list");
-    match tally.named {
-        0 => format!("{part}: {lists}, no difference"),
-        named => format!("{part}: {} and {lists}, no difference", counted(named, "case")),
-    }
+    let cases = (tally.named > 0).then(|| counted(tally.named, "case"));
+    let sheets = (tally.sheets > 0).then(|| counted(tally.sheets, "sheet"));
+    let all: Vec<String> = cases.into_iter().chain([counted(tally.lists, "list")]).chain(sheets).collect();
+    let run = match all.split_last() {
+        Some((last, before)) if !before.is_empty() => format!("{} and {last}", before.join(", ")),
+        _ => all.concat(),
+    };
+    format!("{part}: {run}, no difference")
 }
 
 /// A number and what it counts, as "1 list" and "1,142 cases".
@@ -105,13 +127,16 @@ mod tests {
         let (resumes, changes, loads) = ([1; 8], [1; 9], [1; 16]);
         let mut tally = Tally { codes: [1; 20], damaged: 1, resumes, changes, loads, ..Tally::default() };
         assert!(missing(&tally, true).is_empty());
+        let programs = ["a record", "sheet: reported", "sheet: 20", "sheet: 21", "sheet: 22"];
+        assert_eq!(missing(&tally, false), owned(&programs));
+        (tally.records, tally.reports) = (1, [1, 1, 0, 1]);
         tally.codes[14..].fill(0);
         (tally.damaged, tally.resumes[2], tally.resumes[7], tally.changes[1]) = (0, 0, 0, 0);
         tally.loads[..3].fill(0);
         let (zero, earlier) = ("resume: 14, number 0", "resume: 14, from before the list");
         let change = "change of key: due within a crypt";
         let loads = ["load: loaded", "load: started by the next call", "load: started after other calls"];
-        let fresh = [&["14", "16", "17", "18", "19", zero, change][..], &loads].concat();
+        let fresh = [&["14", "16", "17", "18", "19", zero, change][..], &loads, &["sheet: 21"]].concat();
         let other = [&["14", "15", "16", "17", "18", "19", "255", zero, earlier, change][..], &loads].concat();
         assert_eq!((missing(&tally, false), missing(&tally, true)), (owned(&fresh), owned(&other)));
     }
@@ -122,10 +147,12 @@ mod tests {
 
     #[test]
     fn the_verdict_has_what_was_run() {
-        let said = |named, lists| verdict("second", &Tally { named, lists, ..Tally::default() });
-        assert_eq!(said(1_142, 500), "second: 1,142 cases and 500 lists, no difference");
-        assert_eq!(said(1, 0), "second: 1 case and 0 lists, no difference");
-        assert_eq!(said(0, 1), "second: 1 list, no difference");
+        let said = |named, lists, sheets| verdict("second", &Tally { named, lists, sheets, ..Tally::default() });
+        assert_eq!(said(1_142, 500, 0), "second: 1,142 cases and 500 lists, no difference");
+        assert_eq!(said(1_142, 500, 1_000), "second: 1,142 cases, 500 lists and 1,000 sheets, no difference");
+        assert_eq!(said(1, 0, 0), "second: 1 case and 0 lists, no difference");
+        assert_eq!(said(0, 1, 0), "second: 1 list, no difference");
+        assert_eq!(said(0, 1, 1), "second: 1 list and 1 sheet, no difference");
     }
 
     #[test]

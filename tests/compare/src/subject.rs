@@ -8,10 +8,13 @@ use crate::loads::{Load, Loads};
 use crate::machine::Answer;
 use crate::named::{self, Case};
 use crate::report::Progress;
+use crate::sheet::REFUSALS;
+use std::ops::Range;
 
 /// What lists came to by the second implementation: named cases, lists of the seed, calls of both, the bytes that their
 /// crypts took, how often each code was met, 255 for a damaged card apart from the others, and how often each kind of
-/// resume, of change and of load on a card whose parks and lines are known.
+/// resume, of change and of load on a card whose parks and lines are known; the records that runs of `cardrun` append;
+/// and files of the seed for `sheet`, and how often sheets were reported and refused with each of its numbers.
 #[derive(Clone, Debug, Default, PartialEq, Eq)]
 pub struct Tally {
     pub named: u64,
@@ -23,6 +26,9 @@ pub struct Tally {
     pub resumes: [u64; Resume::NAMES.len()],
     pub changes: [u64; Change::NAMES.len()],
     pub loads: [u64; Load::NAMES.len()],
+    pub records: u64,
+    pub sheets: u64,
+    pub reports: [u64; 1 + REFUSALS.len()],
 }
 
 impl Tally {
@@ -62,9 +68,11 @@ impl Tally {
         self.calls += other.calls;
         self.bytes += other.bytes;
         self.damaged += other.damaged;
+        self.records += other.records;
+        self.sheets += other.sheets;
         let sums = self.codes.iter_mut().chain(&mut self.resumes).chain(&mut self.changes).chain(&mut self.loads);
         let counts = other.codes.iter().chain(&other.resumes).chain(&other.changes).chain(&other.loads);
-        for (sum, count) in sums.zip(counts) {
+        for (sum, count) in sums.chain(&mut self.reports).zip(counts.chain(&other.reports)) {
             *sum += count;
         }
     }
@@ -89,11 +97,17 @@ pub struct Which {
     pub only: Option<u64>,
 }
 
+impl Which {
+    /// The numbers of the lists.
+    pub fn numbers(&self) -> Range<u64> {
+        self.only.map_or(0..self.lists, |number| number..number + 1)
+    }
+}
+
 /// Runs lists up to the first that differs; `program` is the command that runs such a list again.
 pub fn hold_all(subject: &mut dyn Subject, which: &Which, program: &str) -> Result<Tally, String> {
-    let (seed, mut sum) = (which.seed, Tally::default());
-    let numbers = which.only.map_or(0..which.lists, |number| number..number + 1);
-    let progress = Progress::new(numbers.end - numbers.start);
+    let (seed, numbers, mut sum) = (which.seed, which.numbers(), Tally::default());
+    let progress = Progress::new(numbers.end - numbers.start, "lists");
     if which.only.is_none() {
         for case in named::all() {
             sum.add(&subject.hold_case(&case)?);

@@ -1,9 +1,11 @@
-//! Cards that are wrong, each in a way of its own: the named cases find every one of them, and so do call lists.
+//! Cards that are wrong, each in a way of its own: the named cases find every one of them, and so do call lists. Records
+//! that are wrong stand beside them.
 
 mod blank;
 mod changes;
 mod left;
 mod loads;
+mod records;
 mod twist;
 
 use crate::calls::{CallByCall, Card};

@@ -3,6 +3,7 @@
 use crate::hex;
 use crate::lists::List;
 use crate::program::{self, Files, Run};
+use crate::record::joined;
 use crate::subject::first_difference;
 use std::ops::Range;
 
@@ -13,6 +14,7 @@ pub struct Case {
     end: String,
     table: Option<&'static str>,
     out: Option<Vec<u8>>,
+    records: Option<Vec<u8>>,
     parts: Vec<(usize, Vec<u8>)>,
     joined: Vec<(Range<usize>, Vec<Range<usize>>)>,
 }
@@ -26,8 +28,8 @@ impl Case {
 
     /// The same for files as they stand.
     pub fn of(name: impl Into<String>, files: Files, end: impl Into<String>) -> Case {
-        let list = List { kind: name.into(), files, stale: None };
-        Case { list, end: end.into(), table: None, out: None, parts: Vec::new(), joined: Vec::new() }
+        let list = List { kind: name.into(), files, stale: None, used: None, runs: 1 };
+        Case { list, end: end.into(), table: None, out: None, records: None, parts: Vec::new(), joined: Vec::new() }
     }
 
     pub fn tray(mut self, bytes: Vec<u8>) -> Case {
@@ -46,6 +48,18 @@ impl Case {
         self
     }
 
+    /// What stands in `use.bin` before the run.
+    pub fn used(mut self, bytes: Vec<u8>) -> Case {
+        self.list.used = Some(bytes);
+        self
+    }
+
+    /// That the program is run twice.
+    pub fn twice(mut self) -> Case {
+        self.list.runs = 2;
+        self
+    }
+
     /// The whole table.
     pub fn table(mut self, text: &'static str) -> Case {
         self.table = Some(text);
@@ -55,6 +69,12 @@ impl Case {
     /// The whole of `out.bin`.
     pub fn out(mut self, bytes: &[u8]) -> Case {
         self.out = Some(bytes.to_vec());
+        self
+    }
+
+    /// The bytes that a run appends to `use.bin`.
+    pub fn records(mut self, bytes: &[u8]) -> Case {
+        self.records = Some(bytes.to_vec());
         self
     }
 
@@ -82,7 +102,7 @@ impl Case {
     /// Holds what is written down of the second implementation.
     pub fn check(&self) -> Result<(), String> {
         let run = program::run(&self.list.files);
-        let wrong = self.wrong_table(&run).or_else(|| self.wrong_bytes(&run.out));
+        let wrong = self.wrong_table(&run).or_else(|| self.wrong_bytes(&run.out)).or_else(|| self.wrong_records(&run));
         wrong.map_or(Ok(()), |told| Err(format!("named case \"{}\", second implementation: {told}", self.name())))
     }
 
@@ -102,6 +122,11 @@ impl Case {
         let whole = self.out.as_deref().and_then(|bytes| first_difference(bytes, out));
         let told = whole.or_else(|| self.wrong_part(out)).or_else(|| self.wrong_join(out));
         told.map(|told| format!("out.bin: {told}"))
+    }
+
+    fn wrong_records(&self, run: &Run) -> Option<String> {
+        let told = first_difference(self.records.as_ref()?, &joined(&run.records));
+        told.map(|told| format!("the records: {told}"))
     }
 
     fn wrong_part(&self, out: &[u8]) -> Option<String> {
@@ -133,6 +158,9 @@ mod tests {
         assert!(case("end 2 1").check().is_err());
         assert!(case("end 2 0").table("end 2 0\n").check().is_err());
         assert!(case("end 2 0").out(&[0; 2]).check().is_err());
+        assert!(case("end 2 0").records(&[]).check().is_err());
+        assert!(case("end 2 0").records(&[0, 3, 0, 0, 0, 0, 0, 0, 0, 1]).check().is_err());
+        assert_eq!(case("end 2 0").records(&[0, 3, 0, 0, 0, 0, 0, 0, 0, 2]).check(), Ok(()));
         assert!(case("end 2 0").part(1, &[0; 2]).check().is_err());
         assert!(case("end 2 0").same(0..1, 1..2).check().is_err());
         assert!(case("end 2 0").same(2..3, 3..4).check().is_err());

@@ -39,7 +39,7 @@ fn example((cipher, key, iv, stream): &(u8, &str, &str, &str)) -> Case {
         "end 2 0",
     );
     let table = "call code cmd data out\n1 0 51 0 0\n2 0 4 16 16\nend 2 0\n";
-    case.data(vec![0; 16]).table(table).out(&stream)
+    case.data(vec![0; 16]).table(table).out(&stream).records(&[0, *cipher, 0, 0, 0, 0, 0, 0, 0, 16])
 }
 
 /// A keystream of annex C, with its key from the command and from the tray.
