@@ -3,6 +3,7 @@
 use mathlib.Core.Path.{_≡_, refl}
 use mathlib.Core.List.{map}
 use Rattle.words.specs.Strings.{wordAt, fourAt}
+use Rattle.field.specs.Gf8.{squares}
 use Rattle.field.specs.Gf32.{times, timesY}
 use Rattle.field.specs.Aes.{sub, mix, fnT}
 use Rattle.zuc_tables.specs.Tables.{sub1, sub2, d}
@@ -12,5 +13,5 @@ use Rattle.snow2.specs.Cipher.{cells, nots, loaded128}
 use Rattle.cases.specs.Table.{Row, table}
 
 pub cases : map (λ (r : Row). r .computed) table ≡ map (λ (r : Row). r .stated) table
-unfolding table sub1 sub2 d loaded weighed mended fed l1 l2 g times timesY sub mix fnT cells nots loaded128 wordAt fourAt
+unfolding table sub1 sub2 d loaded weighed mended fed l1 l2 g times timesY sub squares mix fnT cells nots loaded128 wordAt fourAt
 cases = refl

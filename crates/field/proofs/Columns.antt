@@ -14,14 +14,14 @@ use Rattle.words.specs.Lists.{All, Byte, Word}
 use Rattle.words.proofs.Table.{entries, all-under}
 use Rattle.words.proofs.Ranges.{all-at, byte-of, join-word}
 use Rattle.words.proofs.Xor.{byte-xor, word-xor}
-use Rattle.field.specs.Gf8.{mul8}
+use Rattle.field.specs.Gf8.{mul8, squares}
 use Rattle.field.specs.Aes.{aes, sub, mix, fnT}
 use Rattle.field.specs.Tables.{subList, columnList}
 use Rattle.field.proofs.Additive.{mul-byte}
 
 -- entry k of the table is SUB[k]
 pub sub-rule : (k : ℕ) → k < 2 ^ 8 → getD subList k 0 ≡ sub k
-unfolding subList sub
+unfolding subList sub squares
 sub-rule k h = entries sub subList tt k h
 
 sub-bytes : All Byte subList

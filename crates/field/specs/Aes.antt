@@ -1,21 +1,12 @@
 -- The byte substitution SUB of AES (document 000, 8.1.8) and the function T of 8.2.5, which 8.5.5 has as Sub_K2, over GF(2)[x] modulo
 -- x^8 + x^4 + x^3 + x + 1.
 -- Assumes nothing.
-use Prim.Native.Nat.{ℕ, zero, suc, _+_, _*_, _/_, _%_, _^_}
+use Prim.Native.Nat.{ℕ, _+_, _*_, _/_, _%_, _^_}
 use Rattle.words.specs.Word.{_⊕_, word, b0, b1, b2, b3}
-use Rattle.field.specs.Gf8.{mul8}
+use Rattle.field.specs.Gf8.{mul8, inverse}
 
 abbrev pub aes : ℕ
 aes = 0x11b
-
--- a^(2^(n + 1) - 2): the product of a^2, a^4, .., n factors
-abbrev pub squares : ℕ → ℕ → ℕ
-squares zero a = 1
-squares (suc n) a = mul8 aes (mul8 aes a a) (squares n (mul8 aes a a))
-
--- the inverse of a, which is a^254, and 0 of 0
-abbrev pub inverse : ℕ → ℕ
-inverse a = squares 7 a
 
 -- the eight digits of a moved k places up, those that leave coming in below
 abbrev pub rotated : ℕ → ℕ → ℕ
@@ -27,7 +18,7 @@ affine a = a ⊕ rotated 1 a ⊕ rotated 2 a ⊕ rotated 3 a ⊕ rotated 4 a ⊕
 
 -- SUB
 unfoldable pub sub : ℕ → ℕ
-sub a = affine (inverse a)
+sub a = affine (inverse aes a)
 
 -- 8.2.5 c) to e): c(y) t(y) modulo y^4 + 1 with c(y) = (x + 1) y^3 + y^2 + y + x, its coefficients q3, q2, q1, q0
 unfoldable pub mix : ℕ → ℕ → ℕ → ℕ → ℕ

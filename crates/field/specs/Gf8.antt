@@ -20,3 +20,12 @@ mulDigits p (suc n) a b = (ifOne (b % 2) a) ⊕ (mulDigits p n (timesX p a) (b /
 -- a b modulo p
 abbrev pub mul8 : ℕ → ℕ → ℕ → ℕ
 mul8 p a b = mulDigits p 8 a b
+
+-- r times a^2, a^4, .., n factors, modulo p
+unfoldable pub squares : ℕ → ℕ → ℕ → ℕ → ℕ
+squares p zero r a = r
+squares p (suc n) r a = squares p n (mul8 p r (mul8 p a a)) (mul8 p a a)
+
+-- 1/a modulo p, which is a^254 = a^2 a^4 .. a^128, and 0 of 0
+abbrev pub inverse : ℕ → ℕ → ℕ
+inverse p a = squares p 7 1 a

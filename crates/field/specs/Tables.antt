@@ -1,4 +1,4 @@
--- The constant tables of the source, as lists.
+-- The constant tables of the source, as lists. The program `tables` prints SUB from its rule.
 -- Assumes nothing.
 use mathlib.Core.List.{List, [], _∷_}
 use Prim.Native.Nat.{ℕ}

@@ -2,6 +2,7 @@
 ghost use mathlib.Core.Path.{_≡_};
 ghost use Rattle.field.specs.Tables.{subList, columnList};
 
+// `target/bin/tables | sed -n 1,16p` prints it from its rule; `tests/tables` compares the two.
 const SUB: [u8; 256] = [
     0x63,
     0x7c,

@@ -1,4 +1,4 @@
--- The tables of KCipher-2 (document 000, 8.5.6 to 8.5.9), as lists, and the fields whose products they hold.
+-- The tables of KCipher-2 (document 000, 8.5.6 to 8.5.9), as lists, and the fields whose products they hold. The program `tables` prints them from these.
 -- Assumes nothing.
 use mathlib.Core.Path.{_≡_}
 use mathlib.Core.List.{List, [], _∷_}

@@ -2,6 +2,7 @@
 ghost use mathlib.Core.Path.{_≡_};
 ghost use Rattle.kcipher2_tables.specs.Tables.{alpha0List, alpha1List, alpha2List, alpha3List};
 
+// `target/bin/tables | sed -n 49,64p` prints it from its rule; `tests/tables` compares the two.
 const ALPHA_MUL0: [u32; 256] = [
     0x00000000,
     0xb6086d1a,
@@ -261,6 +262,7 @@ const ALPHA_MUL0: [u32; 256] = [
     0xa1f48be2,
 ];
 
+// `target/bin/tables | sed -n 65,80p` prints it from its rule; `tests/tables` compares the two.
 const ALPHA_MUL1: [u32; 256] = [
     0x00000000,
     0xa0f5fc2e,
@@ -520,6 +522,7 @@ const ALPHA_MUL1: [u32; 256] = [
     0x2bdc188f,
 ];
 
+// `target/bin/tables | sed -n 81,96p` prints it from its rule; `tests/tables` compares the two.
 const ALPHA_MUL2: [u32; 256] = [
     0x00000000,
     0x5bf87f93,
@@ -779,6 +782,7 @@ const ALPHA_MUL2: [u32; 256] = [
     0x9c91a2b4,
 ];
 
+// `target/bin/tables | sed -n 97,112p` prints it from its rule; `tests/tables` compares the two.
 const ALPHA_MUL3: [u32; 256] = [
     0x00000000,
     0x4559568b,

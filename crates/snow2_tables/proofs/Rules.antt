@@ -5,7 +5,8 @@ use Prim.Native.Nat.{ℕ, _/_, _%_, _^_}
 use lib.ListN.{getD}
 use Rattle.words.specs.Word.{_⊕_}
 use Rattle.words.specs.Lists.{Word}
-use Rattle.field.specs.Gf32.{Products, times, timesY, alpha}
+use Rattle.field.specs.Gf8.{squares}
+use Rattle.field.specs.Gf32.{Products, times, timesY, alpha, overAlpha}
 use Rattle.field.proofs.Elements.{products, inverse-by}
 use Rattle.snow2_tables.specs.Tables.{field, alphaInv, alphaList, inverseList}
 
@@ -17,7 +18,12 @@ pub inverse-rule : Products field alphaInv inverseList
 unfolding inverseList
 inverse-rule = products field alphaInv inverseList refl
 
--- α^-1 is the inverse of α
+-- α^-1 is what the coefficients of y^4 give
+pub inverse-worked : overAlpha (field .modulus) (field .y4) ≡ alphaInv
+unfolding overAlpha squares
+inverse-worked = refl
+
+-- and it is the inverse of α
 pub inverse-of : times field alpha alphaInv ≡ 1
 unfolding times timesY
 inverse-of = refl

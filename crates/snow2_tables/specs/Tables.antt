@@ -1,4 +1,4 @@
--- The tables of SNOW 2.0 (document 000, 8.2.6 and 8.2.7), as lists, and the field whose products they hold.
+-- The tables of SNOW 2.0 (document 000, 8.2.6 and 8.2.7), as lists, and the field whose products they hold. The program `tables` prints them from it.
 -- Assumes nothing.
 use mathlib.Core.Path.{_≡_}
 use mathlib.Core.List.{List, [], _∷_}

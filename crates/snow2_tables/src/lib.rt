@@ -2,6 +2,7 @@
 ghost use mathlib.Core.Path.{_≡_};
 ghost use Rattle.snow2_tables.specs.Tables.{alphaList, inverseList};
 
+// `target/bin/tables | sed -n 17,32p` prints it from its rule; `tests/tables` compares the two.
 const ALPHA_MUL: [u32; 256] = [
     0x00000000,
     0xe19fcf13,
@@ -261,6 +262,7 @@ const ALPHA_MUL: [u32; 256] = [
     0x3f53b5eb,
 ];
 
+// `target/bin/tables | sed -n 33,48p` prints it from its rule; `tests/tables` compares the two.
 const ALPHA_INV_MUL: [u32; 256] = [
     0x00000000,
     0x180f40cd,

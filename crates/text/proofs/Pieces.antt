@@ -7,7 +7,7 @@ use native.Mathlib.Nat.{zero-add}
 use native.Mathlib.Omega.{arith}
 use borrow.Rule.Slice.PartMut.{putMid}
 use lib.ListN.{length, take, drop, set, length-append, take-append-drop}
-use lib.Seq.{length-take-le, take-at, drop-at, drop-drop}
+use lib.Seq.{length-take-le, take-at, drop-at, drop-drop, drop-length}
 use Rattle.buffer.proofs.Fronts.{Front, front-length, front-more, front-store}
 use Rattle.text.specs.Text.{Behind, figure}
 use Rattle.text.proofs.Digits.{figure-most}
@@ -114,3 +114,12 @@ gather-more {rest = rest} {p} g b =
 
 pub gather-all : {whole before out : List ℕ} {at₀ at : ℕ} → Gathering whole [] at₀ before out at → Behind whole at₀ before out at
 gather-all {whole} {before} {out} {at₀} {at} g = subst (λ (p : List ℕ). Behind p at₀ before out at) (sym (append-nil (g .sofar)) ∙ g .is) (g .behind)
+
+-- what is gathered and what is left are whole
+pub gather-length : {whole rest before out : List ℕ} {at₀ at : ℕ} → Gathering whole rest at₀ before out at → at + length rest ≡ at₀ + length whole
+gather-length {rest = rest} g = let e = g .behind .end in omega (arith, length-append (g .sofar) rest, ap length (g .is))
+
+-- a text that fills a buffer is all that is in it
+pub behind-full : {p before out : List ℕ} {r : ℕ} → Behind p 0 before out r → r ≡ length before → out ≡ p
+behind-full {p} {before} b e =
+    b .is ∙ ap (λ (x : List ℕ). p ++ x) (ap (λ (k : ℕ). drop k before) e ∙ drop-length before) ∙ append-nil p

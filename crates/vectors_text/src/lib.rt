@@ -28,7 +28,9 @@ pub fn remark(s: &[u8]) {
 }
 
 pub fn word(w: u32) {
-    io::print_hex(STDOUT_FILENO, w as u64, 8);
+    let mut digits = [0u8; 8];
+    hex_text::fill(w as u64, &mut digits);
+    put(&digits);
 }
 
 // A space and a word.
@@ -38,7 +40,9 @@ pub fn cell(w: u32) {
 }
 
 pub fn block(x: u64) {
-    io::print_hex(STDOUT_FILENO, x, 16);
+    let mut digits = [0u8; 16];
+    hex_text::fill(x, &mut digits);
+    put(&digits);
 }
 
 // A word of Rabbit's keystream, whose first byte is its lowest.

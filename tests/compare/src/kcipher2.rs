@@ -15,7 +15,7 @@ const L2: usize = 19;
 
 /// The multiples of y^4 for each alpha, a root of y^4 + b^p y^3 + b^q y^2 + b^r y + b^s with p, q, r, s as given
 /// and b a root of the polynomial after them. The tables of 8.5.6 to 8.5.9 show both.
-static ALPHA: [[u32; 256]; 4] = [
+pub static ALPHA: [[u32; 256]; 4] = [
     multiples([24, 3, 12, 71], 0x1C3),
     multiples([230, 156, 93, 29], 0x12D),
     multiples([34, 16, 199, 248], 0x14D),

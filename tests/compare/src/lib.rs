@@ -48,6 +48,7 @@ pub mod sheet;
 pub mod snow2;
 pub mod spent;
 pub mod subject;
+pub mod tables;
 pub mod trays;
 pub mod words;
 #[cfg(test)]

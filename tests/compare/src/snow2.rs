@@ -9,10 +9,10 @@ use crate::field::multiples;
 const POLY: u16 = 0x1A9;
 
 /// alpha is a root of y^4 + beta^23 y^3 + beta^245 y^2 + beta^48 y + beta^239.
-static UP: [u32; 256] = multiples([23, 245, 48, 239], POLY);
+pub static UP: [u32; 256] = multiples([23, 245, 48, 239], POLY);
 
 /// The equation of alpha divided by beta^239 y gives 1/y = beta^16 y^3 + beta^39 y^2 + beta^6 y + beta^64.
-static DOWN: [u32; 256] = multiples([16, 39, 6, 64], POLY);
+pub static DOWN: [u32; 256] = multiples([16, 39, 6, 64], POLY);
 
 /// The product of alpha and `w`.
 pub fn times_alpha(w: u32) -> u32 {
