@@ -9,11 +9,12 @@ use lib.Seq.{drop-at, take-at}
 use Rattle.card_sizes.specs.Sizes.{stateWords, lineSize, lineCount, cardSize}
 use Rattle.machine.specs.Machine.{Line, MLine, Machine, shown, unitAt, seen}
 use Rattle.machine.proofs.Lines.{none-waits, one-waits, Good, good-idle, good-loaded, good-open, good-ok, shown-idle, start-shown, state-fit}
+use Rattle.machine.proofs.Parks.{Long}
 use Rattle.machine.proofs.Simulation.{AllGood, none-good, more-good}
 use Rattle.card_line.specs.Words.{lineIn, lineWords}
 use Rattle.card_layout.specs.Words.{linesIn, linesWords, parksIn, parksWords, cardIn, cardWords}
 use Rattle.card_line.proofs.Lines.{Plain, small, line-read, line-length}
-use Rattle.card_layout.proofs.Cards.{lines-first}
+use Rattle.card_layout.proofs.Cards.{lines-first, parks-read}
 
 data AllPlain : List Line → Type 0 where
   no-plain : AllPlain []
@@ -70,13 +71,14 @@ module _ (m : Machine) (g : AllGood (m .lines)) (n : length (m .lines) ≡ lineC
   lines-end : length (linesWords ls) ≡ lineSize * lineCount
   lines-end = lines-length ls (all-plain g) ∙ ap (_*_ lineSize) eight
 
-  pub seen-read : cardIn (cardWords (seen m)) ≡ seen m
+  pub seen-read : Long (m .parks) → cardIn (cardWords (seen m)) ≡ seen m
   unfolding cardIn cardWords
-  seen-read =
+  seen-read k =
       let e = ap (λ (k : ℕ). linesIn k (linesWords ls ++ own)) (sym eight) ∙ lines-read ls own (all-plain g) in
-      let f = drop-at (linesWords ls) own (lineSize * lineCount) lines-end in
-      λ j. record { lines = e j; parks = parksIn (f j) }
+      let f = ap parksIn (drop-at (linesWords ls) own (lineSize * lineCount) lines-end) ∙ parks-read (m .parks) k in
+      λ j. record { lines = e j; parks = f j }
 
-  pub seen-length : length (m .parks .held) ≡ lineCount → length (cardWords (seen m)) ≡ cardSize
+  pub seen-length : Long (m .parks) → length (cardWords (seen m)) ≡ cardSize
   unfolding cardWords
-  seen-length h = length-append (linesWords ls) own ∙ ap₂ (λ (x y : ℕ). x + suc y) lines-end h
+  seen-length k =
+      length-append (linesWords ls) own ∙ ap₂ _+_ lines-end (length-append (m .parks .counts) (m .parks .held) ∙ ap₂ _+_ (k .counts) (k .held))

@@ -8,11 +8,12 @@ use native.Mathlib.Decide.{decLt}
 use native.Mathlib.Omega.{arith}
 use borrow.Rule.Slice.PartMut.{putMid, post-is}
 use lib.ListN.{length, getD, take, drop, set, replicate, take-append-drop, length-drop, length-append}
-use lib.Seq.{length-take-le, drop-drop, drop-at, take-at, take-add, drop-cons}
+use lib.Seq.{length-take-le, drop-drop, drop-at, take-at, take-add}
 use Rattle.card_sizes.specs.Sizes.{lineSize, lineCount, cardSize}
 use Rattle.machine.specs.Machine.{Line, idleLine, withLineSeen, withParksSeen, freshCard}
 use Rattle.machine.specs.Parks.{Parks}
 use Rattle.machine.specs.Calls.{lineOn}
+use Rattle.machine.proofs.Parks.{Long}
 use Rattle.card_line.specs.Words.{lineIn, lineWords, LineHeld}
 use Rattle.card_layout.specs.Words.{wordsAt, linesIn, linesWords, parksIn, parksWords, cardIn, cardWords, putLine, putParks, Held, Sound}
 use Rattle.card_line.proofs.Lines.{Plain, line-read, line-length}
@@ -151,7 +152,7 @@ rest-same (suc k) (suc i) ws l q n m =
 
 -- the parks are the words behind the lines, and nothing else is
 behind : (ws : List ℕ) → length ws ≡ cardSize → parksWords (parksIn (drop (lineSize * lineCount) ws)) ≡ drop (lineSize * lineCount) ws
-behind ws n = sym (drop-cons (drop (lineSize * lineCount) ws) 0 0 (omega (arith, length-drop (lineSize * lineCount) ws)))
+behind ws n = take-append-drop lineCount (drop (lineSize * lineCount) ws)
 
 -- The card of words in which a line was put, and the words of a card in which it is set.
 pub put-seen : (ws : List ℕ) (i : ℕ) (l : Line) → i < lineCount → length ws ≡ cardSize → Plain l → cardIn (putLine ws i l) ≡ withLineSeen (cardIn ws) i l
@@ -181,17 +182,31 @@ lines-front (suc k) ws n =
     ∙ ap (λ (x : List Line). lineIn (take lineSize ws) ∷ x) (lines-front k (drop lineSize ws) (omega (arith, length-drop lineSize ws)))
     ∙ sym (lines-first k ws)
 
+-- parks are read back from their words, and a card's words have as many as it has lines
+pub parks-read : (p : Parks) → Long p → parksIn (parksWords p) ≡ p
+parks-read p k =
+    let c = take-at (p .counts) (p .held) lineCount (k .counts) in
+    let h = drop-at (p .counts) (p .held) lineCount (k .counts) in
+    λ j. record { counts = c j; held = h j }
+
+pub card-long : (ws : List ℕ) → length ws ≡ cardSize → Long (cardIn ws .parks)
+unfolding cardIn
+card-long ws n =
+    let r = drop (lineSize * lineCount) ws in
+    let b = length-drop (lineSize * lineCount) ws in
+    record { counts = length-take-le lineCount r (omega (arith, b, n)); held = length-drop lineCount r ∙ omega (arith, b, n) }
+
 -- The card of words in which parks were put, and the words of a card in which they are set.
-pub parks-seen : (ws : List ℕ) (p : Parks) → length ws ≡ cardSize → cardIn (putParks ws p) ≡ withParksSeen (cardIn ws) p
+pub parks-seen : (ws : List ℕ) (p : Parks) → length ws ≡ cardSize → Long p → cardIn (putParks ws p) ≡ withParksSeen (cardIn ws) p
 unfolding cardIn putParks
-parks-seen ws p n =
+parks-seen ws p n k =
     let front = take (lineSize * lineCount) ws in
     let m = length-take-le (lineSize * lineCount) ws (omega arith) in
     let long : lineSize * lineCount ≤ length (front ++ parksWords p) = omega (arith, length-append front (parksWords p), m) in
     let e : linesIn lineCount (front ++ parksWords p) ≡ linesIn lineCount ws =
     sym (lines-front lineCount (front ++ parksWords p) long) ∙ ap (linesIn lineCount) (take-at front (parksWords p) (lineSize * lineCount) m) ∙ lines-front lineCount ws (omega arith) in
-    let f = drop-at front (parksWords p) (lineSize * lineCount) m in
-    λ j. record { lines = e j; parks = parksIn (f j) }
+    let f = ap parksIn (drop-at front (parksWords p) (lineSize * lineCount) m) ∙ parks-read p k in
+    λ j. record { lines = e j; parks = f j }
 
 pub parks-words : (ws : List ℕ) (p : Parks) → Sound ws → cardWords (withParksSeen (cardIn ws) p) ≡ putParks ws p
 unfolding cardIn cardWords putParks

@@ -4,7 +4,7 @@ use mathlib.Core.Path.{_≡_}
 use mathlib.Core.Bool.{true}
 use mathlib.Core.List.{List, [], _∷_, _++_}
 use Prim.Native.Nat.{ℕ, zero, suc, _+_, _*_, _<_}
-use lib.ListN.{length, getD, take, drop}
+use lib.ListN.{length, take, drop}
 use Rattle.card_sizes.specs.Sizes.{lineSize, lineCount, parksAt, cardSize}
 use Rattle.machine.specs.Parks.{Parks}
 use Rattle.machine.specs.Machine.{Line, Seen, cardOk}
@@ -23,12 +23,12 @@ abbrev pub linesWords : List Line → List ℕ
 linesWords [] = []
 linesWords (l ∷ ls) = lineWords l ++ linesWords ls
 
--- the parks that stand in the words behind the lines: how many were made, and the numbers held
+-- the parks that stand in the words behind the lines: for each line how many were made from it, and behind them the numbers held
 abbrev pub parksIn : List ℕ → Parks
-parksIn ws = record { count = getD ws 0 0; held = drop 1 ws }
+parksIn ws = record { counts = take lineCount ws; held = drop lineCount ws }
 
 abbrev pub parksWords : Parks → List ℕ
-parksWords p = p .count ∷ p .held
+parksWords p = p .counts ++ p .held
 
 -- the card that stands in words
 unfoldable pub cardIn : List ℕ → Seen

@@ -64,7 +64,7 @@ module _ {m : Machine} {ws : List ℕ} (t : Stored m ws) (a : Call) (b : CallByt
   card-next = ap (λ (s : Shown). cardIn (pick (eqb (s .outcome .code) 0) (cardWords (s .card)) ws)) same ∙ by (eqb (step m a .outcome .code) 0) refl ∙ sym (ap (λ (s : Shown). s .card) same)
     where
       by : (x : Bool) → eqb (step m a .outcome .code) 0 ≡ x → cardIn (pick x (cardWords (seen (step m a .machine))) ws) ≡ seen (step m a .machine)
-      by true e = seen-read (step m a .machine) (step-good m (t .good) a b .lines) eight-next
+      by true e = seen-read (step m a .machine) (step-good m (t .good) a b .lines) eight-next (step-good m (t .good) a b .long)
       by false e = t .card ∙ kept (eqb-false (step m a .outcome .code) 0 e)
 
   size-next : length (wordsOf after ws) ≡ cardSize

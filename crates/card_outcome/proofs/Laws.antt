@@ -18,14 +18,15 @@ use Rattle.card_sizes.specs.Sizes.{lineCount, imageLength}
 use Rattle.command.specs.Rows.{Row, unless, codeOf}
 use Rattle.command.proofs.Rows.{AllPassed, code-yes, code-no}
 use Rattle.machine.specs.Machine.{Line, MLine, View, Seen, noView, Effect, refuse, put, crypt, park, resume, change, start, refuseIf, idle, idleLine, based, shown, moved, enciphered, changed, startedLine, viewOf, viewAt, isIdle, isOpen, isLoaded, lineOk, openOk, loadedOk, idleOk, allOk, imageOf, back, seen, withLine, withLineSeen, withParksSeen}
-use Rattle.machine.specs.Parks.{Parks, lastPark, noMore, numberNow, parked, holds, taken, parksOk}
+use Rattle.machine.specs.Parks.{Parks, countFor, lastPark, noMore, numberNow, parked, holds, taken, parksOk}
 use Rattle.machine.specs.Calls.{lineOn}
 use Rattle.machine.proofs.Moves.{enciphered-length}
+use Rattle.machine.proofs.Parks.{Long, parked-long, taken-long}
 use Rattle.machine.proofs.Lines.{shown-based, shown-idle}
 use Rattle.machine.proofs.Seen.{seen-back, seen-with}
 use Rattle.card_layout.specs.Words.{wordsAt, cardIn, cardWords, putLine, putParks, Sound}
 use Rattle.card_line.proofs.Lines.{Plain, ok-plain, idle-plain}
-use Rattle.card_layout.proofs.Cards.{line-here, card-lines, put-seen, put-words, parks-seen, parks-words}
+use Rattle.card_layout.proofs.Cards.{line-here, card-lines, card-long, put-seen, put-words, parks-seen, parks-words}
 use Rattle.card_layout.proofs.Several.{put-sound}
 use Rattle.card_outcome.specs.declared.Outcome.{Outcome}
 use Rattle.card_outcome.specs.Outcomes.{refusal, acceptance, outcomeOf}
@@ -91,13 +92,13 @@ module _ (ws : List ℕ) (i : ℕ) where
 
 -- what the rows ask of the parks
 
-pub full-is : (ws : List ℕ) {n : ℕ} → n ≡ cardIn ws .parks .count → (b : Bool) → leb lastPark n ≡ b → noMore (publicOf ws .parks) ≡ b
+pub full-is : (ws : List ℕ) (i : ℕ) {n : ℕ} → n ≡ countFor (cardIn ws .parks) i → (b : Bool) → leb lastPark n ≡ b → noMore (publicOf ws .parks) i ≡ b
 unfolding publicOf noMore
-full-is ws e b h = ap (leb lastPark) (sym e) ∙ h
+full-is ws i e b h = ap (leb lastPark) (sym e) ∙ h
 
-pub held-by : (ws : List ℕ) (k : ℕ) → holds (publicOf ws .parks) k ≡ holds (cardIn ws .parks) k
+pub held-by : (ws : List ℕ) (j k : ℕ) → holds (publicOf ws .parks) j k ≡ holds (cardIn ws .parks) j k
 unfolding publicOf
-held-by ws k = refl
+held-by ws j k = refl
 
 -- a line that is put leaves them
 pub put-parks : (ws : List ℕ) (i : ℕ) (l : Line) → i < lineCount → Sound ws → Plain l → cardIn (putLine ws i l) .parks ≡ cardIn ws .parks
@@ -201,11 +202,12 @@ module _ (ws text out : List ℕ) where
         record { outcome-is = k; card-is = placed-seen (startedLine m iv) l e' f h; words-are = placed-words (startedLine m iv) l e' h; out-is = refl }
 
     -- and then its parks
-    module _ (m : MLine) (l : Line) (e : l ≡ shown m) (p : Plain l) (ok : lineOk l ≡ true) (f : Parks → Parks) where
+    module _ (m : MLine) (l : Line) (e : l ≡ shown m) (p : Plain l) (ok : lineOk l ≡ true) (f : Parks → Parks) (keeps : (x : Parks) → Long x → Long (f x)) where
       both-seen : {ws' : List ℕ} → ws' ≡ putParks (putLine ws i l) (f (cardIn (putLine ws i l) .parks)) →
           cardIn ws' ≡ withParksSeen (seen (withLine (back (cardIn ws)) i m)) (f (cardIn ws .parks))
       both-seen h =
           ap cardIn h ∙ parks-seen (putLine ws i l) (f (cardIn (putLine ws i l) .parks)) (put-sound ws s i q l p ok .size)
+          (keeps (cardIn (putLine ws i l) .parks) (card-long (putLine ws i l) (put-sound ws s i q l p ok .size)))
           ∙ ap₂ (λ (c : Seen) (x : Parks). withParksSeen c (f x)) (placed-seen m l e p refl) (put-parks ws i l q s p)
 
       both-words : {ws' : List ℕ} → ws' ≡ putParks (putLine ws i l) (f (cardIn (putLine ws i l) .parks)) →
@@ -214,19 +216,19 @@ module _ (ws text out : List ℕ) where
           h ∙ sym (parks-words (putLine ws i l) (f (cardIn (putLine ws i l) .parks)) (put-sound ws s i q l p ok))
           ∙ ap₂ (λ (c : Seen) (x : Parks). cardWords (withParksSeen c (f x))) (placed-seen m l e p refl) (put-parks ws i l q s p)
 
-    pub given-park : (size : ℕ) → length (imageOf (numberNow (cardIn ws .parks)) (lineOn (cardIn ws) i)) ≡ imageLength →
+    pub given-park : (size : ℕ) → length (imageOf i (numberNow (cardIn ws .parks) i) (lineOn (cardIn ws) i)) ≡ imageLength →
         {ws' : List ℕ} → ws' ≡ putParks (putLine ws i idleLine) (parked (cardIn (putLine ws i idleLine) .parks) i) →
-        {o : List ℕ} → o ≡ imageOf (numberNow (cardIn ws .parks)) (lineOn (cardIn ws) i) ++ drop imageLength out → {r : Outcome} → r ≡ acceptance size 0 imageLength → EffectLeaves ws text out (park i size) r ws' o
+        {o : List ℕ} → o ≡ imageOf i (numberNow (cardIn ws .parks) i) (lineOn (cardIn ws) i) ++ drop imageLength out → {r : Outcome} → r ≡ acceptance size 0 imageLength → EffectLeaves ws text out (park i size) r ws' o
     unfolding outcomeOf outOf wordsOf lineOk idleOk
     given-park size t h g k =
         let m = getD (map based (cardIn ws .lines)) i idle in
-        let image = imageOf (numberNow (cardIn ws .parks)) in
+        let image = imageOf i (numberNow (cardIn ws .parks) i) in
         let w : image (lineOn (cardIn ws) i) ≡ image (shown m) = sym (ap image (ap shown base-is ∙ shown-based (lineOn (cardIn ws) i))) in
         let n : imageLength ≡ length (image (shown m)) = sym t ∙ ap length w in
         record {
           outcome-is = k ∙ ap (acceptance size 0) n;
-          card-is = both-seen idle idleLine (sym shown-idle) idle-plain refl (λ x. parked x i) h;
-          words-are = both-words idle idleLine (sym shown-idle) idle-plain refl (λ x. parked x i) h;
+          card-is = both-seen idle idleLine (sym shown-idle) idle-plain refl (λ x. parked x i) (λ x. parked-long x i) h;
+          words-are = both-words idle idleLine (sym shown-idle) idle-plain refl (λ x. parked x i) (λ x. parked-long x i) h;
           out-is = g ∙ ap₂ (λ (x : List ℕ) (j : ℕ). x ++ drop j out) w n;
         }
 
@@ -235,4 +237,4 @@ module _ (ws text out : List ℕ) where
         EffectLeaves ws text out (resume i m n size) r ws' out
     unfolding outcomeOf outOf wordsOf
     given-resume n size m l e p ok h k =
-        record { outcome-is = k; card-is = both-seen m l e p ok (λ x. taken x n) h; words-are = both-words m l e p ok (λ x. taken x n) h; out-is = refl }
+        record { outcome-is = k; card-is = both-seen m l e p ok (λ x. taken x n) (λ x. taken-long x n) h; words-are = both-words m l e p ok (λ x. taken x n) (λ x. taken-long x n) h; out-is = refl }

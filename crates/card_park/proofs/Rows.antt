@@ -18,13 +18,13 @@ use Rattle.card_layout.specs.Words.{cardIn}
 use Rattle.card_outcome.specs.Leaves.{callOf, publicOf}
 use Rattle.card_outcome.proofs.Laws.{view-is}
 
--- a park of line i, once the line is judged, where no park is left or one is, and out has this length
+-- a park of line i, once the line is judged, where no park from it is left or one is, and out has this length
 abbrev pub parkWith : (i : ℕ) (spent : Bool) (out : ℕ) → Effect
 parkWith i spent out = refuseIf spent 15 (refuseIf (ltb out imageLength) 12 (park i parkLength))
 
 -- the rows of a park, by what is read of its line
 pub park-decided : (ws : List ℕ) (i : ℕ) (command tray text out : List ℕ) → let l = lineOn (cardIn ws) i in
-    decided (Park i) (publicOf ws) (callOf command tray text out) ≡ unless refuseIf (parkRows (l .mode) (l .due)) (parkWith i (noMore (publicOf ws .parks)) (length out))
+    decided (Park i) (publicOf ws) (callOf command tray text out) ≡ unless refuseIf (parkRows (l .mode) (l .due)) (parkWith i (noMore (publicOf ws .parks) i) (length out))
 unfolding decided refuseIf lengthOf
 park-decided ws i command tray text out =
-    ap (λ (v : View). unless refuseIf (parkRows (v .mode) (v .due)) (parkWith i (noMore (publicOf ws .parks)) (length out))) (view-is ws i)
+    ap (λ (v : View). unless refuseIf (parkRows (v .mode) (v .due)) (parkWith i (noMore (publicOf ws .parks) i) (length out))) (view-is ws i)

@@ -15,14 +15,15 @@ use card_rows::park_code;
 use card_sizes::CLOSE;
 use card_sizes::IMAGE;
 use card_sizes::LINE;
+use card_sizes::LINES;
 use card_sizes::PARK;
 use card_sizes::RESUME;
 use card_sizes::RESUME_IMAGE;
 
-// As many parks as 32 bits count.
+// As many parks of a line as 32 bits count.
 const LAST_PARK: u32 = 4_294_967_295;
 
-// A park: the image of line i, with the next number, goes to the start of out, the line is idle, and the card holds the number.
+// A park: the image of line i, with the line's next number, goes to the start of out, the line is idle, and the card holds the number of it.
 pub fn run_park(card: &mut [u32], i: u8, out: &mut [u8]) -> Outcome
     requires { ⌜ Sound (now card) × (i < lineCount) ⌝ }
     ensures { λ r. ⌜ ((command tray text : List ℕ) → CommandLeaves (now (card .entry)) (Park i)
@@ -34,7 +35,7 @@ pub fn run_park(card: &mut [u32], i: u8, out: &mut [u8]) -> Outcome
     if code != 0 {
         return refused(code);
     }
-    let count = card_parks::park_count(card);
+    let count = card_parks::park_count(card, i);
     if count >= LAST_PARK {
         return refused(15);
     }
@@ -44,13 +45,13 @@ pub fn run_park(card: &mut [u32], i: u8, out: &mut [u8]) -> Outcome
     let number = count + 1;
     let at = LINE * (i as usize);
     let end = at + LINE;
-    card_image::put(&card[at..end], number, out);
+    card_image::put(&card[at..end], i, number, out);
     card_layout::clear_line(card, i);
     card_parks::put_parked(card, i, number);
     accepted(PARK, 0, IMAGE)
 }
 
-// A resume of line i from the command's image, whose number the card holds, and then holds no more.
+// A resume of line i from the command's image, whose number the card holds of the line that parked it, and then holds no more.
 pub fn run_resume(card: &mut [u32], i: u8, command: &[u8]) -> Outcome
     requires { ⌜ Sound (now card) × (i < lineCount) ⌝ }
     requires { ⌜ resumeLength ≤ length (now command) ⌝ }
@@ -65,17 +66,21 @@ pub fn run_resume(card: &mut [u32], i: u8, command: &[u8]) -> Outcome
     let cipher = card_fields::cipher_in(img);
     let n = card_fields::position_in(img);
     let state = card_fields::words_in(img);
+    let from = card_fields::from_in(img);
     let number = card_fields::number_in(img);
     let ok = card_checks::open_with(cipher, n, &state);
-    let held = card_parks::is_held(card, number);
     if !ok {
         return refused(8);
     }
+    if (from as usize) >= LINES {
+        return refused(8);
+    }
+    let held = card_parks::is_held(card, from, number);
     if !held {
         return refused(14);
     }
     card_layout::put_line(1, cipher, n, &state, card, i);
-    card_parks::take_up(card, number);
+    card_parks::take_up(card, from);
     accepted(RESUME, 0, 0)
 }
 

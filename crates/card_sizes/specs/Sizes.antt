@@ -30,17 +30,21 @@ lineCount = 8
 abbrev pub parksAt : ℕ
 parksAt = lineSize * lineCount
 
--- and before the numbers that it holds: how many parks were made
+-- and before the numbers that it holds: for each line how many parks were made from it
 abbrev pub heldAt : ℕ
-heldAt = parksAt + 1
+heldAt = parksAt + lineCount
 
 -- the words of a card: for each line the number last parked from it stands at the end
 abbrev pub cardSize : ℕ
 cardSize = heldAt + lineCount
 
--- the bytes before the number of an image's park: its cipher and its position in eight
+-- the bytes before the line that parked an image: its cipher and its position in eight
+abbrev pub imageFromAt : ℕ
+imageFromAt = 9
+
+-- before the number of its park: the line in one
 abbrev pub imageNumberAt : ℕ
-imageNumberAt = 9
+imageNumberAt = imageFromAt + 1
 
 -- and before its state: the number in four
 abbrev pub imageState : ℕ

@@ -22,14 +22,17 @@ pub const LINES: usize = 8;
 // The words before a card's parks: its lines.
 pub const PARKS_AT: usize = LINE * LINES;
 
-// And before the numbers that it holds: how many parks were made.
-pub const HELD: usize = PARKS_AT + 1;
+// And before the numbers that it holds: for each line how many parks were made from it.
+pub const HELD: usize = PARKS_AT + LINES;
 
 // The words of a card: for each line the number last parked from it stands at the end.
 pub const CARD: usize = HELD + LINES;
 
-// The bytes before the number of an image's park: its cipher and its position in eight.
-pub const IMAGE_NUMBER: usize = 9;
+// The bytes before the line that parked an image: its cipher and its position in eight.
+pub const IMAGE_FROM: usize = 9;
+
+// Before the number of its park: the line in one.
+pub const IMAGE_NUMBER: usize = IMAGE_FROM + 1;
 
 // And before its state: the number in four.
 pub const IMAGE_STATE: usize = IMAGE_NUMBER + 4;

@@ -45,15 +45,19 @@ beforeChange c n w d s = record { mode = 1; cipher = c; n = n; words = w; due = 
 abbrev cells : List ℕ
 cells = replicate 16 1 ++ zeros 22
 
--- lines 0, 1 and 6 are idle; 2 is open with ZUC within a unit, 3 with Rabbit at a unit's end, 4 with SNOW 2.0 before the last position, 5 with MUGI behind it, 7 with KCipher-2 at its start; seven parks were made, and 3, from line 0,
--- and 7, from line 2, are held
+-- three parks of line 0, seven of line 2, and so many of line 7
+abbrev counts : ℕ → List ℕ
+counts k = 3 ∷ 0 ∷ 7 ∷ zeros 4 ++ (k ∷ [])
+
+-- lines 0, 1 and 6 are idle; 2 is open with ZUC within a unit, 3 with Rabbit at a unit's end, 4 with SNOW 2.0 before the last position, 5 with MUGI behind it, 7 with KCipher-2 at its start; of lines 0, 2 and 7 three, seven and two parks were
+-- made, and 3 of line 0 and 7 of line 2 are held
 abbrev pub eight : Seen
 eight =
     record {
       lines =
           idleLine ∷ idleLine ∷ openLine 1 5 cells ∷ openLine 2 16 blank ∷ openLine 3 last blank ∷ openLine 6 end blank ∷ idleLine
           ∷ openLine 5 0 blank ∷ [];
-      parks = record { count = 7; held = 3 ∷ 0 ∷ 7 ∷ zeros 5 };
+      parks = record { counts = counts 2; held = 3 ∷ 0 ∷ 7 ∷ zeros 5 };
     }
 
 -- that card with line i another
@@ -64,9 +68,9 @@ with i l = record { lines = set (eight .lines) i l; parks = eight .parks }
 abbrev after : Parks → Seen
 after p = record { lines = eight .lines; parks = p }
 
--- and with line 7 another and other parks
+-- and with line 7 another, so many parks of it, and other numbers held
 abbrev held : Line → (count : ℕ) → List ℕ → Seen
-held l k ns = record { lines = set (eight .lines) 7 l; parks = record { count = k; held = ns } }
+held l k ns = record { lines = set (eight .lines) 7 l; parks = record { counts = counts k; held = ns } }
 
 -- that card with line 4 two bytes before the end of its stream, and there a change that waits; SNOW 2.0's unit of a word and zeros is that word
 abbrev waiting : Seen
@@ -113,20 +117,20 @@ abbrev spelled : (words byte : ℕ) → List ℕ
 spelled zero b = []
 spelled (suc k) b = 0 ∷ 0 ∷ 0 ∷ b ∷ spelled k b
 
--- an image: the cipher, the position's fifth byte from its end and its last, the park's number, and the state
-abbrev image : (cipher high low number : ℕ) → List ℕ → List ℕ
-image c h l k w = c ∷ 0 ∷ 0 ∷ 0 ∷ h ∷ 0 ∷ 0 ∷ 0 ∷ l ∷ 0 ∷ 0 ∷ 0 ∷ k ∷ w
+-- an image: the cipher, the position's fifth byte from its end and its last, the line that parked it, the park's number, and the state
+abbrev image : (cipher high low from number : ℕ) → List ℕ → List ℕ
+image c h l j k w = c ∷ 0 ∷ 0 ∷ 0 ∷ h ∷ 0 ∷ 0 ∷ 0 ∷ l ∷ j ∷ 0 ∷ 0 ∷ 0 ∷ k ∷ w
 
--- with a number that is held
+-- with a line and a number that is held of it
 abbrev resume : (i cipher high low : ℕ) → List ℕ → List ℕ
-resume i c h l w = 5 ∷ i ∷ image c h l 3 w
+resume i c h l w = 5 ∷ i ∷ image c h l 0 3 w
 
--- that of line 7 with number k
-abbrev imageOf7 : ℕ → List ℕ
-imageOf7 k = image 5 0 0 k (spelled stateWords 0)
+-- that of line 7's state, with a parking line and number k
+abbrev imageFor : (from number : ℕ) → List ℕ
+imageFor j k = image 5 0 0 j k (spelled stateWords 0)
 
-abbrev bring : (i number : ℕ) → List ℕ
-bring i k = 5 ∷ i ∷ imageOf7 k
+abbrev bring : (i from number : ℕ) → List ℕ
+bring i j k = 5 ∷ i ∷ imageFor j k
 
 -- ---- a call, and what came of it
 
@@ -164,9 +168,9 @@ stateOn i c a = getD (cardStep c a .card .lines) i idleLine .words
 unfoldable pub done : Seen → Call → Seen
 done c a = cardStep c a .card
 
--- how many parks were made, and the numbers held; after it
+-- how many parks were made from each line, and the numbers held; after it
 abbrev numbersOn : Seen → List ℕ
-numbersOn c = c .parks .count ∷ c .parks .held
+numbersOn c = c .parks .counts ++ c .parks .held
 
 unfoldable pub numbers : Seen → Call → List ℕ
 numbers c a = numbersOn (cardStep c a .card)
@@ -299,53 +303,65 @@ crypts =
 abbrev parkOf7 : Call
 parkOf7 = lent (park 7) 0 0 imageLength
 
--- after a park of line 7; after it took up the call of number 3; after it was parked again; after it took up that call
+-- after a park of line 7; after it took up number 3 of line 0; after it was parked again; after it took up that call
 abbrev parkedOnce : Seen
-parkedOnce = held idleLine 8 (3 ∷ 0 ∷ 7 ∷ zeros 4 ++ (8 ∷ []))
+parkedOnce = held idleLine 3 (3 ∷ 0 ∷ 7 ∷ zeros 4 ++ (3 ∷ []))
 
 abbrev takenUp : Seen
-takenUp = held (openLine 5 0 blank) 8 (0 ∷ 0 ∷ 7 ∷ zeros 4 ++ (8 ∷ []))
+takenUp = held (openLine 5 0 blank) 3 (0 ∷ 0 ∷ 7 ∷ zeros 4 ++ (3 ∷ []))
 
 abbrev parkedTwice : Seen
-parkedTwice = held idleLine 9 (0 ∷ 0 ∷ 7 ∷ zeros 4 ++ (9 ∷ []))
+parkedTwice = held idleLine 4 (0 ∷ 0 ∷ 7 ∷ zeros 4 ++ (4 ∷ []))
 
 abbrev takenTwice : Seen
-takenTwice = held (openLine 5 0 blank) 9 (0 ∷ 0 ∷ 7 ∷ zeros 5)
+takenTwice = held (openLine 5 0 blank) 4 (0 ∷ 0 ∷ 7 ∷ zeros 5)
+
+-- no park of line 7 is left, or one is
+abbrev sevenAt : ℕ → Seen
+sevenAt k = after (record { counts = counts k; held = zeros 8 })
 
 unfoldable pub parks : List Step
 parks =
     -- the first park has number 1
-    numbers (after freshParks) parkOf7 gives (1 ∷ zeros 7 ++ (1 ∷ []))
-    ∷ writes (after freshParks) parkOf7 gives imageOf7 1
-    -- a later one replaces the number of its line, and no other
-    ∷ numbers eight (lent (park 2) 0 0 imageLength) gives (8 ∷ 3 ∷ 0 ∷ 8 ∷ zeros 5)
-    -- as many parks as 32 bits count; 6 before 15 before 12
-    ∷ answer (after (record { count = lastPark - 1; held = zeros 8 })) parkOf7 gives accepted 2 0 imageLength
-    ∷ answer (after (record { count = lastPark; held = zeros 8 })) (lent (park 7) 0 0 0) gives refusal 15
-    ∷ answer (after (record { count = lastPark; held = zeros 8 })) (lent (park 6) 0 0 0) gives refusal 6
-    -- number 0, one that was replaced or taken up, one above the count
-    ∷ answer eight (lent (bring 0 0) 0 0 0) gives refusal 14
-    ∷ answer eight (lent (bring 0 6) 0 0 0) gives refusal 14
-    ∷ answer eight (lent (bring 0 8) 0 0 0) gives refusal 14
-    -- 8 before 14
-    ∷ answer eight (lent (5 ∷ 0 ∷ image 7 0 0 8 (spelled stateWords 0)) 0 0 0) gives refusal 8
-    -- a number equal to the count, on whichever line; it is held no more
-    ∷ answer eight (lent (bring 6 7) 0 0 0) gives accepted resumeLength 0 0
-    ∷ numbers eight (lent (bring 6 7) 0 0 0) gives (7 ∷ 3 ∷ zeros 7)
+    numbers (after freshParks) parkOf7 gives (zeros 7 ++ (1 ∷ zeros 7) ++ (1 ∷ []))
+    ∷ writes (after freshParks) parkOf7 gives imageFor 7 1
+    -- a later one counts its line's parks and replaces the number of its line, and of no other
+    ∷ numbers eight (lent (park 2) 0 0 imageLength) gives ((3 ∷ 0 ∷ 8 ∷ zeros 4 ++ (2 ∷ [])) ++ (3 ∷ 0 ∷ 8 ∷ zeros 5))
+    ∷ writes eight parkOf7 gives imageFor 7 3
+    -- as many parks of a line as 32 bits count, while another parks on; 6 before 15 before 12
+    ∷ answer (sevenAt (lastPark - 1)) parkOf7 gives accepted 2 0 imageLength
+    ∷ answer (sevenAt lastPark) (lent (park 7) 0 0 0) gives refusal 15
+    ∷ answer (sevenAt lastPark) (lent (park 2) 0 0 imageLength) gives accepted 2 0 imageLength
+    ∷ answer (sevenAt lastPark) (lent (park 6) 0 0 0) gives refusal 6
+    -- number 0, one that was replaced or taken up, one above the count, and one that another line holds
+    ∷ answer eight (lent (bring 0 0 0) 0 0 0) gives refusal 14
+    ∷ answer eight (lent (bring 0 0 2) 0 0 0) gives refusal 14
+    ∷ answer eight (lent (bring 0 0 4) 0 0 0) gives refusal 14
+    ∷ answer eight (lent (bring 0 2 3) 0 0 0) gives refusal 14
+    ∷ answer eight (lent (bring 0 1 3) 0 0 0) gives refusal 14
+    -- a parking line over 7; 8 before 14
+    ∷ answer eight (lent (bring 0 8 3) 0 0 0) gives refusal 8
+    ∷ answer eight (lent (bring 0 255 3) 0 0 0) gives refusal 8
+    ∷ answer eight (lent (5 ∷ 0 ∷ image 7 0 0 0 8 (spelled stateWords 0)) 0 0 0) gives refusal 8
+    -- a number equal to its line's count, on whichever line; it is held no more
+    ∷ answer eight (lent (bring 6 2 7) 0 0 0) gives accepted resumeLength 0 0
+    ∷ numbers eight (lent (bring 6 2 7) 0 0 0) gives (counts 2 ++ (3 ∷ zeros 7))
+    -- the same number of two lines: each is taken up for its own
+    ∷ numbers parkedOnce (lent (bring 1 7 3) 0 0 0) gives (counts 3 ++ (3 ∷ 0 ∷ 7 ∷ zeros 5))
     -- a close, an open, a crypt and refusals, of a park too, leave the numbers
     ∷ numbers eight (lent (close 2) 0 0 0) gives numbersOn eight
     ∷ numbers eight (lent (own 0 3 16 16) 0 0 0) gives numbersOn eight
     ∷ numbers eight (lent (crypt 2 7) 0 8 9) gives numbersOn eight
     ∷ numbers eight (lent (park 7) 0 0 (imageLength - 1)) gives numbersOn eight
-    ∷ numbers eight (lent (bring 0 6) 0 0 0) gives numbersOn eight
+    ∷ numbers eight (lent (bring 0 2 6) 0 0 0) gives numbersOn eight
     -- park, resume, park, then a resume of the first park, of the second, and again
     ∷ numbers eight parkOf7 gives numbersOn parkedOnce
-    ∷ numbers parkedOnce (lent (bring 7 3) 0 0 0) gives numbersOn takenUp
+    ∷ numbers parkedOnce (lent (bring 7 0 3) 0 0 0) gives numbersOn takenUp
     ∷ numbers takenUp parkOf7 gives numbersOn parkedTwice
-    ∷ answer parkedTwice (lent (bring 7 8) 0 0 0) gives refusal 14
-    ∷ answer parkedTwice (lent (bring 7 9) 0 0 0) gives accepted resumeLength 0 0
-    ∷ numbers parkedTwice (lent (bring 7 9) 0 0 0) gives numbersOn takenTwice
-    ∷ answer takenTwice (lent (bring 1 9) 0 0 0) gives refusal 14
+    ∷ answer parkedTwice (lent (bring 7 7 3) 0 0 0) gives refusal 14
+    ∷ answer parkedTwice (lent (bring 7 7 4) 0 0 0) gives accepted resumeLength 0 0
+    ∷ numbers parkedTwice (lent (bring 7 7 4) 0 0 0) gives numbersOn takenTwice
+    ∷ answer takenTwice (lent (bring 1 7 4) 0 0 0) gives refusal 14
     ∷ []
 
 -- 6, 17, 18, 9, 10, 7, 16 of a change, 17 of a park, and the changes that pass
@@ -354,9 +370,9 @@ parks =
 abbrev longKey : Seen
 longKey = with 4 (openLine 4 5 blank)
 
--- a card with as many parks as 32 bits count
+-- a card with as many parks of each line as 32 bits count
 abbrev allParked : Seen → Seen
-allParked c = record { lines = c .lines; parks = record { count = lastPark; held = zeros 8 } }
+allParked c = record { lines = c .lines; parks = record { counts = replicate 8 lastPark; held = zeros 8 } }
 
 unfoldable pub changes : List Step
 changes =
@@ -443,7 +459,7 @@ comings =
     ∷ writes waiting (cryptOf4 1) gives (0x13 ∷ [])
     ∷ writes (done waiting (cryptOf4 1)) (cryptOf4 3) gives (0x14 ∷ 0x25 ∷ 0x36 ∷ [])
     -- then a park is of the new stream, and another change is taken
-    ∷ writes (done waiting (cryptOf4 5)) (lent (park 4) 0 0 imageLength) gives image 3 0 3 8 (5 ∷ 6 ∷ 7 ∷ 8 ∷ spelled 37 0)
+    ∷ writes (done waiting (cryptOf4 5)) (lent (park 4) 0 0 imageLength) gives image 3 0 3 4 1 (5 ∷ 6 ∷ 7 ∷ 8 ∷ spelled 37 0)
     ∷ answer (done waiting (cryptOf4 5)) (lent (change 4 0 16 0 4) 32 0 0) gives accepted 27 0 0
     -- a close drops it: the line is idle as on a fresh card
     ∷ modes waiting (lent (close 4) 0 0 0) gives (0 ∷ 0 ∷ 1 ∷ 1 ∷ 0 ∷ 1 ∷ 0 ∷ 1 ∷ [])
@@ -471,7 +487,7 @@ loads =
     -- a loaded line: 5, 6, and a close that empties it
     ∷ answer loadedTwo (lent (own 1 1 16 16) 0 0 0) gives refusal 5
     ∷ answer loadedTwo (lent (fromTray 6 1 0 16) 32 0 0) gives refusal 5
-    ∷ answer loadedTwo (lent (bring 6 3) 0 0 0) gives refusal 5
+    ∷ answer loadedTwo (lent (bring 6 0 3) 0 0 0) gives refusal 5
     ∷ answer loadedTwo (lent (crypt 6 0) 0 0 0) gives refusal 6
     ∷ answer loadedTwo (lent (park 1) 0 0 imageLength) gives refusal 6
     ∷ answer loadedTwo (lent (change 6 0 16 0 0) 32 0 0) gives refusal 6
@@ -525,9 +541,11 @@ damage =
     ∷ answer (with 2 (beforeChange 1 5 cells 6 blank)) (lent (close 2) 0 0 0) gives refusal 255
     ∷ answer (with 2 (beforeChange 1 5 cells 6 cells)) (lent (close 2) 0 0 0) gives accepted 2 0 0
     ∷ answer (with 4 (beforeChange 3 5 blank 6 (set blank 18 1))) (lent (close 2) 0 0 0) gives refusal 255
-    -- a held number above the count, and one held twice
-    ∷ answer (after (record { count = 6; held = eight .parks .held })) (lent [] 0 0 0) gives refusal 255
-    ∷ answer (after (record { count = 7; held = 3 ∷ 0 ∷ 7 ∷ zeros 4 ++ (3 ∷ []) })) (lent (close 2) 0 0 0) gives refusal 255
+    -- a held number above its own line's count, though not above another's; one that two lines hold passes
+    ∷ answer (after (record { counts = set (counts 2) 2 6; held = eight .parks .held })) (lent [] 0 0 0) gives refusal 255
+    ∷ answer (after (record { counts = counts 2; held = 3 ∷ 1 ∷ 7 ∷ zeros 5 })) (lent (close 2) 0 0 0) gives refusal 255
+    ∷ answer (after (record { counts = counts 2; held = 3 ∷ 0 ∷ 7 ∷ zeros 4 ++ (3 ∷ []) })) (lent (close 2) 0 0 0) gives refusal 255
+    ∷ answer (after (record { counts = counts 3; held = 3 ∷ 0 ∷ 7 ∷ zeros 4 ++ (3 ∷ []) })) (lent (close 2) 0 0 0) gives accepted 2 0 0
     ∷ []
 
 unfoldable pub calls : List Step

@@ -75,8 +75,8 @@ table =
     ∷ (crypting 0 5 5 4 is 12)
     ∷ (crypting 0 5 5 5 is 0)
     -- room for an image
-    ∷ (parking 164 is 12)
-    ∷ (parking 165 is 0)
+    ∷ (parking 165 is 12)
+    ∷ (parking 166 is 0)
     -- trays
     ∷ (opening 8192 255 is 0)
     ∷ (opening 8224 0 is 9)
@@ -99,8 +99,8 @@ table =
     ∷ (changing 5 0 5 33 is 9)
     ∷ (changing 5 0 5 0 is 10)
     -- a park where one waits: 17 before 12
+    ∷ (parkingBefore 6 166 is 17)
     ∷ (parkingBefore 6 165 is 17)
-    ∷ (parkingBefore 6 164 is 17)
     -- 13 in each stream by itself: a change that comes due at the end of the old one, or before it
     ∷ (spanning (2 ^ 36 - 1) (2 ^ 36) 1 1 is 0)
     ∷ (spanning (2 ^ 36 - 1) (2 ^ 36) 9 9 is 0)

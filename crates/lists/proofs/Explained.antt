@@ -21,7 +21,7 @@ use Rattle.command.specs.declared.Decoded.the-variants.{Run, Refused}
 use Rattle.command.specs.Decode.{decodeOf, numberOf, operandsOf, lineOf, sizeOf}
 use Rattle.command.proofs.Rows.{not-zero}
 use Rattle.command.proofs.Reading.{ReadIn, refused-in, run-in, Has, read-in}
-use Rattle.machine.specs.Machine.{Machine, lineAt, idle, shown, based, opened, loadedLine, enciphered, streamOf, imageOf, imageLine, imageNumber, Call, Effect, refuse, put, crypt, park, resume, change, start, public, keyField, ivField, ivFor, viewOf, effectOf, ofDecoded, decide, perform, step, shows}
+use Rattle.machine.specs.Machine.{Machine, lineAt, idle, shown, based, opened, loadedLine, enciphered, streamOf, imageOf, imageLine, imageFrom, imageNumber, Call, Effect, refuse, put, crypt, park, resume, change, start, public, keyField, ivField, ivFor, viewOf, effectOf, ofDecoded, decide, perform, step, shows}
 use Rattle.machine.specs.Parks.{noMore, numberNow, holds}
 use Rattle.machine.specs.Calls.{Made, madeOf}
 use Rattle.lists.specs.Logs.{Did, did-nothing, did-open, did-crypt, did-park, did-resume, did-close, did-change, did-load, did-start, doneBy, did}
@@ -38,9 +38,10 @@ pub data Explained (m : Machine) (a : Call) : Effect → Did → Type 0 where
   was-open : {j size c : ℕ} {key iv : List ℕ} → Names a j → Explained m a (put j (opened c key iv) size) (did-open j c key iv)
   was-crypt : {j n size : ℕ} → Names a j → n ≤ length (a .text)
       → Explained m a (crypt j n size) (did-crypt j (take n (a .text)) (enciphered (lineAt m j) (take n (a .text))))
-  was-park : {j size : ℕ} → Names a j → lineAt m j .mode ≡ 1 → lineAt m j .due ≡ 0 → noMore (m .parks) ≡ false → Explained m a (park j size) (did-park j (imageOf (numberNow (m .parks)) (shown (lineAt m j))))
-  was-resume : {j size : ℕ} {image : List ℕ} → Names a j → holds (m .parks) (imageNumber image) ≡ true
-      → Explained m a (resume j (based (imageLine image)) (imageNumber image) size) (did-resume j image)
+  was-park : {j size : ℕ} → Names a j → lineAt m j .mode ≡ 1 → lineAt m j .due ≡ 0 → noMore (m .parks) j ≡ false
+      → Explained m a (park j size) (did-park j (imageOf j (numberNow (m .parks) j) (shown (lineAt m j))))
+  was-resume : {j size : ℕ} {image : List ℕ} → Names a j → holds (m .parks) (imageFrom image) (imageNumber image) ≡ true
+      → Explained m a (resume j (based (imageLine image)) (imageFrom image) size) (did-resume j image)
   was-close : {j size : ℕ} → Names a j → Explained m a (put j idle size) (did-close j)
   was-change : {j p size : ℕ} {key iv : List ℕ} → Names a j → lineAt m j .mode ≡ 1 → lineAt m j .due ≡ 0 → lineAt m j .pos ≤ p →
       Explained m a (change j p (streamOf (lineAt m j .cipher) key iv) size) (did-change j p key iv)
@@ -78,7 +79,7 @@ module _ (m : Machine) (a : Call) where
   explains-effect (Park i) h p =
       record {
         is =
-            subst (λ (y : List ℕ). Explained m a (effectOf (Park i) (public m) a) (did-park i y)) (sym (first (imageOf (numberNow (m .parks)) (shown (lineAt m i)))))
+            subst (λ (y : List ℕ). Explained m a (effectOf (Park i) (public m) a) (did-park i y)) (sym (first (imageOf i (numberNow (m .parks) i) (shown (lineAt m i)))))
             (was-park (names (Park i) h) (is-open m a i (passed 6 p)) (none-due m a i (passed 17 p)) (passed 15 p));
       }
   explains-effect (Resume i) h p = record { is = was-resume (names (Resume i) h) (not-false _ (passed 14 p)) }

@@ -2,7 +2,7 @@
 -- Assumes nothing.
 use mathlib.Core.Path.{_≡_, refl, ap, sym, _∙_, subst}
 use mathlib.Core.List.{List}
-use Prim.Native.Nat.{ℕ, _/_, _≤_}
+use Prim.Native.Nat.{ℕ, _/_, _^_, _<_, _≤_}
 use Rattle.keystream.proofs.Laws.{stateAt-rebase, byteAt-rebase, div-mono}
 use Rattle.machine.specs.Machine.{Line, MLine, genAt, unitAt, stateOf, byteOf, shown, based, imageOf, imageLine}
 use Rattle.words.specs.Lists.{Word}
@@ -23,6 +23,6 @@ anew-goes-on l b =
     }
 
 -- and so does the line of its image
-pub image-goes-on : (l : MLine) → l .from ≤ unitAt l → Sized (shown l) → (k : ℕ) → Word k → (image : List ℕ) → image ≡ imageOf k (shown l) → GoesOn l (based (imageLine image))
-image-goes-on l b s k h image e =
-    subst (λ (x : Line). GoesOn l (based x)) (sym (ap imageLine e ∙ image-back k h (shown l) s)) (anew-goes-on l b)
+pub image-goes-on : (l : MLine) → l .from ≤ unitAt l → Sized (shown l) → (i k : ℕ) → i < 2 ^ 8 → Word k → (image : List ℕ) → image ≡ imageOf i k (shown l) → GoesOn l (based (imageLine image))
+image-goes-on l b s i k q h image e =
+    subst (λ (x : Line). GoesOn l (based x)) (sym (ap imageLine e ∙ image-back i k q h (shown l) s)) (anew-goes-on l b)

@@ -1,6 +1,6 @@
 -- Demand 3 of every list that is the machine's: what holds of the lines and of their logs is carried along the list call by call, and each claim is read off at its place in the list.
 -- Assumes nothing.
-use mathlib.Core.Path.{_≡_, refl, ap, sym, _∙_, subst}
+use mathlib.Core.Path.{_≡_, refl, ap, ap₂, sym, _∙_, subst}
 use mathlib.Core.Bool.{Bool, true, false}
 use mathlib.Core.List.{List, [], _∷_, _++_, append-assoc}
 use Prim.Native.Nat.{ℕ, zero, suc, _+_, _<_}
@@ -14,7 +14,7 @@ use Rattle.words.specs.Lists.{All, Byte}
 use Rattle.ciphers.specs.Table.{cipherAt}
 use Rattle.ciphers.proofs.Kept.{start-load}
 use Rattle.words.proofs.Tests.{both-right}
-use Rattle.machine.specs.Machine.{Line, MLine, Machine, Seen, lineAt, zeros, idle, plainLine, unitAt, stateOf, byteOf, shown, based, moved, changed, opened, loadedLine, startedLine, plain, ivFor, streamOf, imageOf, imageLine, imageNumber, Call, Effect, refuse, put, crypt, park, resume, change, start, public, decide, perform, step, seen, shows, freshMachine, freshCard}
+use Rattle.machine.specs.Machine.{Line, MLine, Machine, Seen, lineAt, zeros, idle, plainLine, unitAt, stateOf, byteOf, shown, based, moved, changed, opened, loadedLine, startedLine, plain, ivFor, streamOf, imageOf, imageLine, imageFrom, imageNumber, Call, Effect, refuse, put, crypt, park, resume, change, start, public, decide, perform, step, seen, shows, freshMachine, freshCard}
 use Rattle.machine.specs.Parks.{Parks, noMore, numberNow, parked, holds, taken}
 use Rattle.machine.specs.Calls.{Made, madeOf, machineRun, callsOf, cardAfter, lineOn, CallBytes, AllBytes}
 use Rattle.lists.specs.Logs.{Did, did-nothing, did-open, did-crypt, did-park, did-resume, did-close, did-change, did-load, did-start, did, Log, begun, noted, logAfter, logOf, standing}
@@ -137,13 +137,13 @@ pub record ParkWrote (m m' : Machine) (i : ℕ) (image : List ℕ) : Type 0 wher
   pub counted : m' .parks ≡ parked (m .parks) i
   pub up : lineAt m i .mode ≡ 1
   pub none-due : lineAt m i .due ≡ 0
-  pub left : noMore (m .parks) ≡ false
-  pub is : image ≡ imageOf (numberNow (m .parks)) (shown (lineAt m i))
+  pub left : noMore (m .parks) i ≡ false
+  pub is : image ≡ imageOf i (numberNow (m .parks) i) (shown (lineAt m i))
 
 pub record ResumeTook (m m' : Machine) (i : ℕ) (image : List ℕ) : Type 0 where
   pub line : lineAt m' i ≡ based (imageLine image)
-  pub held : holds (m .parks) (imageNumber image) ≡ true
-  pub took : m' .parks ≡ taken (m .parks) (imageNumber image)
+  pub held : holds (m .parks) (imageFrom image) (imageNumber image) ≡ true
+  pub took : m' .parks ≡ taken (m .parks) (imageFrom image)
 
 pub record LoadKept (a : Call) (m' : Machine) (i c : ℕ) (key : List ℕ) : Type 0 where
   pub line : lineAt m' i ≡ loadedLine c key
@@ -237,7 +237,7 @@ later {before = before} {p = p} t = ap (machineAfter freshMachine) (t .is) ∙ m
 
 -- what every park and every resume keeps of the parks is kept from one call to another
 module _ (P : Parks → Type 0) (by-park : (p : Parks) (i : ℕ) → P p → P (parked p i)) (by-resume : (p : Parks) (k : ℕ) → P p → P (taken p k)) where
-  parks-step : (m : Machine) (text : List ℕ) (e : Effect) → P (m .parks) → P (perform m text e .machine .parks)
+  pub parks-step : (m : Machine) (text : List ℕ) (e : Effect) → P (m .parks) → P (perform m text e .machine .parks)
   parks-step m text (refuse _) h = h
   parks-step m text (put i l size) h = h
   parks-step m text (crypt i n size) h = h
@@ -254,8 +254,8 @@ module _ (P : Parks → Type 0) (by-park : (p : Parks) (i : ℕ) → P p → P (
   pub parks-since : {before sofar : List Made} {p : Made} → (t : Stands before p sofar) → P (machineNext before p .parks) → P (machineAfter freshMachine sofar .parks)
   parks-since {before = before} {p = p} t h = subst (λ (m : Machine). P (m .parks)) (sym (later t)) (parks-after (t .after) (machineNext before p) h)
 
-pub spent-since : {before sofar : List Made} {p : Made} (k : ℕ) → (t : Stands before p sofar) → Spent (machineNext before p .parks) k → Spent (machineAfter freshMachine sofar .parks) k
-spent-since k t h = parks-since (λ q. Spent q k) (λ q i. parked-keeps q i k) (λ q j. taken-keeps q j k) t h
+pub spent-since : {before sofar : List Made} {p : Made} (i k : ℕ) → (t : Stands before p sofar) → Spent (machineNext before p .parks) i k → Spent (machineAfter freshMachine sofar .parks) i k
+spent-since i k t h = parks-since (λ q. Spent q i k) (λ q j. parked-keeps q j i k) (λ q j. taken-keeps q j i k) t h
 
 -- a line on which no call between two of them was accepted is as it was
 line-kept : (i : ℕ) (ys : List Made) (m : Machine) → Runs m ys → AllOff i ys → lineAt (machineAfter m ys) i ≡ lineAt m i
@@ -282,6 +282,7 @@ no-more e = let z : _≡_ {A = ℕ} 0 1 = cc in omega (arith, z)
 module _ (xs : List Made) (is : xs ≡ machineRun freshMachine (callsOf xs)) (bytes : AllBytes xs) where
   -- the place of a call in the list
   pub record Place (before : List Made) (x : Made) : Type 0 where
+    pub so-far : Runs freshMachine before
     pub at : Reached (machineAfter freshMachine before) (cardAfter freshCard before) (λ i. logOf i before)
     pub run : x ≡ madeOf (x .call) (shows (step (machineAfter freshMachine before) (x .call)))
     pub did-is : Explained (machineAfter freshMachine before) (x .call) (decide (public (machineAfter freshMachine before)) (x .call)) (did x)
@@ -292,8 +293,10 @@ module _ (xs : List Made) (is : xs ≡ machineRun freshMachine (callsOf xs)) (by
       let r = subst (Runs freshMachine) (s .is) (runs xs freshMachine is) in
       let b = subst AllBytes (s .is) bytes in
       let h = runs-back before (x ∷ after) freshMachine r in
+      let f = runs-front before (x ∷ after) freshMachine r in
       record {
-        at = reached before freshMachine freshCard (λ i. begun idle) reached-fresh (runs-front before (x ∷ after) freshMachine r) (bytes-front before (x ∷ after) b);
+        so-far = f;
+        at = reached before freshMachine freshCard (λ i. begun idle) reached-fresh f (bytes-front before (x ∷ after) b);
         run = h .0;
         did-is = explained-at (machineAfter freshMachine before) x (h .0);
       }
@@ -357,25 +360,26 @@ module _ (xs : List Made) (is : xs ≡ machineRun freshMachine (callsOf xs)) (by
       let w = told-at (stands-in s t) (did-park i image) dp in
       let l = lineAt m i in
       let h = good-get (k .at .good .lines) i in
-      let g = image-goes-on l (good-behind l h) (sized l h (w .up) (w .none-due)) (numberNow (m .parks)) (number-word (m .parks) (w .left)) image (w .is) in
+      let g = image-goes-on l (good-behind l h) (sized l h (w .up) (w .none-due)) i (numberNow (m .parks) i) (let b = w .below in omega (arith, b)) (number-word (m .parks) i (w .left)) image (w .is) in
       let there : standing (logOf j (sofar ++ (x ∷ []))) ≡ based (imageLine image) = ap standing (log-last j sofar x dx ∙ on-its-line j _ _) ∙ standing-begun (based (imageLine image)) in
       let g' : GoesOn (bare l) (based (imageLine image)) = record { mode = g .mode; cipher = g .cipher; position = g .position; bytes = g .bytes; states = g .states } in
       subst (GoesOn (standing (logOf i before))) (sym there) (subst (λ (y : MLine). GoesOn y (based (imageLine image))) (sym (held-here l (logOf i before) (k .at .held i))) g')
 
   -- a number that was taken up is spent
   pub spent-at : {before sofar : List Made} {p x : Made} → Stands sofar x xs → (t : Stands before p sofar) (i : ℕ) (image : List ℕ) → did p ≡ did-resume i image →
-      Spent (machineAfter freshMachine sofar .parks) (imageNumber image)
+      Spent (machineAfter freshMachine sofar .parks) (imageFrom image) (imageNumber image)
   spent-at {before = before} s t i image dp =
       let w = told-at (stands-in s t) (did-resume i image) dp in
-      spent-since (imageNumber image) t
-      (subst (λ (y : Parks). Spent y (imageNumber image)) (sym (w .took))
-      (taken-spent (machineAfter freshMachine before .parks) (imageNumber image) (place (stands-in s t) .at .good .parks) (w .held)))
+      let k = place (stands-in s t) .at .good in
+      spent-since (imageFrom image) (imageNumber image) t
+      (subst (λ (y : Parks). Spent y (imageFrom image) (imageNumber image)) (sym (w .took))
+      (taken-spent (machineAfter freshMachine before .parks) (imageFrom image) (imageNumber image) (k .long) (k .parks) (w .held)))
 
   once-at : {before sofar : List Made} {p x : Made} → Stands sofar x xs → Stands before p sofar → (i j : ℕ) (image image' : List ℕ) →
-      did p ≡ did-resume i image → did x ≡ did-resume j image' → imageNumber image ≡ imageNumber image' → ⊥
-  once-at {sofar = sofar} s t i j image image' dp dx same =
+      did p ≡ did-resume i image → did x ≡ did-resume j image' → imageFrom image ≡ imageFrom image' → imageNumber image ≡ imageNumber image' → ⊥
+  once-at {sofar = sofar} s t i j image image' dp dx line number =
       let p = machineAfter freshMachine sofar .parks in
-      no-more (sym (ap (holds p) same ∙ told-at s (did-resume j image') dx .held) ∙ spent-refused p (imageNumber image) (spent-at s t i image dp))
+      no-more (sym (ap₂ (holds p) line number ∙ told-at s (did-resume j image') dx .held) ∙ spent-refused p (imageFrom image) (imageNumber image) (spent-at s t i image dp))
 
   others-at : {before : List Made} {x : Made} → Stands before x xs → (i : ℕ) → (On i x → ⊥) → Kept i before x
   unfolding step

@@ -6,12 +6,12 @@ use Rattle.machine.specs.Machine.{Machine, Seen, Shown, seen, shows, step, card
 use Rattle.machine.specs.Calls.{Made, madeOf, machineRun, callsOf, AllBytes}
 use Rattle.lists.specs.OneStream.{OneStream}
 use Rattle.lists.specs.Counted.{Counted}
-use Rattle.lists.specs.Parking.{ParkedCalls}
+use Rattle.lists.specs.Parking.{ParkedCalls, SameImages}
 use Rattle.lists.specs.Steps.{Steps, none, step as stepped}
 use Rattle.machine.proofs.Simulation.{GoodCard, step-same, step-good, fresh-good, fresh-seen}
 use Rattle.lists.proofs.OneStream.{machine-one-stream}
 use Rattle.lists.proofs.Counted.{machine-counted}
-use Rattle.lists.proofs.Parking.{machine-parked-calls}
+use Rattle.lists.proofs.Parking.{machine-parked-calls, machine-same-images}
 
 steps-are : {c : Seen} {xs : List Made} → Steps c xs → (m : Machine) → GoodCard m → c ≡ seen m → xs ≡ machineRun m (callsOf xs)
 steps-are none m g e = refl
@@ -35,3 +35,8 @@ steps-counted xs h = machine-counted xs (steps-are h freshMachine fresh-good (sy
 -- In such a list an image that a park wrote is taken up once, and until its line parks again.
 pub steps-parked-calls : (xs : List Made) → Steps freshCard xs → ParkedCalls xs
 steps-parked-calls xs h = machine-parked-calls xs (steps-are h freshMachine fresh-good (sym fresh-seen)) (steps-bytes h)
+
+-- In any two such lists a park from a line writes the same where the line's cipher, position, state and accepted parks before it are the same.
+pub steps-same-images : (xs ys : List Made) → Steps freshCard xs → Steps freshCard ys → SameImages xs ys
+steps-same-images xs ys h k =
+    machine-same-images xs ys (steps-are h freshMachine fresh-good (sym fresh-seen)) (steps-are k freshMachine fresh-good (sym fresh-seen)) (steps-bytes h) (steps-bytes k)

@@ -329,7 +329,7 @@ module _ (xs : List Made) (o : OneStream xs) (b : AllBytes xs) {before sofar : L
       let z = sized l (good-get (k .at .good .lines) i) (w .up) (w .none-due) in
       o .from-image s j image dx
       ∙ ap imageLine (w .is)
-      ∙ image-back (numberNow (m .parks)) (number-word (m .parks) (w .left)) (shown l) z
+      ∙ image-back i (numberNow (m .parks) i) (let b = w .below in omega (arith, b)) (number-word (m .parks) i (w .left)) (shown l) z
       ∙ sym (ap (λ (c : Seen). lineOn c i) (k .at .card) ∙ seen-at m i)
 
   -- A call on line i that was parked (after the list before) and taken up on line j, which has begun no other stream since then, is one stream: the parked line's own goes on.

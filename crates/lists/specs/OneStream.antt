@@ -6,7 +6,7 @@ use mathlib.Core.Path.{_≡_}
 use lib.ListN.{getD}
 use Rattle.keystream.specs.Stream.{xorFrom}
 use Rattle.ciphers.specs.Table.{cipherAt}
-use Rattle.machine.specs.Machine.{Line, MLine, plainLine, genOf, genAt, byteOf, stateOf, imageLine, imageNumber, ivFor, freshMachine, freshCard}
+use Rattle.machine.specs.Machine.{Line, MLine, plainLine, genOf, genAt, byteOf, stateOf, imageLine, imageFrom, imageNumber, ivFor, freshMachine, freshCard}
 use Rattle.machine.specs.Calls.{Made, machineRun, callsOf, cardAfter, lineOn}
 use Rattle.lists.specs.Logs.{did, did-open, did-load, did-start, did-park, did-resume, Log, logOf, standing, keyByte}
 
@@ -66,8 +66,8 @@ pub record OneStream (xs : List Made) : Type 0 where
   pub goes-on : {before sofar : List Made} {p x : Made} → Stands sofar x xs → Stands before p sofar → (i j : ℕ) (image : List ℕ) →
       did p ≡ did-park i image → did x ≡ did-resume j image →
       GoesOn (standing (logOf i before)) (standing (logOf j (sofar ++ (x ∷ []))))
-  -- no two resumes take up the same park
+  -- no two resumes take up the same park: the same number from the same line
   pub once : {before sofar : List Made} {p x : Made} → Stands sofar x xs → Stands before p sofar → (i j : ℕ) (image image' : List ℕ) →
-      did p ≡ did-resume i image → did x ≡ did-resume j image' → imageNumber image ≡ imageNumber image' → ⊥
+      did p ≡ did-resume i image → did x ≡ did-resume j image' → imageFrom image ≡ imageFrom image' → imageNumber image ≡ imageNumber image' → ⊥
   -- a call on another line, or a refused one, changes neither a line's stream nor its position nor its state
   pub others : {before : List Made} {x : Made} → Stands before x xs → (i : ℕ) → (On i x → ⊥) → Kept i before x

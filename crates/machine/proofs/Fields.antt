@@ -9,11 +9,12 @@ use lib.ListN.{length, getD, replicate, length-append}
 use lib.Seq.{getD-append-add}
 use lib.Pow.{mod-pow-add}
 use Rattle.ciphers.specs.States.{stateWords, spelt}
+use Rattle.ciphers.proofs.Kept.{tab-same}
 use Rattle.words.specs.Lists.{All, more as more-words, Word, tab}
 use Rattle.words.specs.Word.{word}
 use Rattle.words.specs.Strings.{wordAt, bytesOf}
 use Rattle.machine.specs.Fields.{fieldBytes, numberAt, inFields, fieldsAt}
-use Rattle.machine.specs.Machine.{zeros, Line, imageWidths, imageOf, fieldsLine, imageLine, imageNumber}
+use Rattle.machine.specs.Machine.{zeros, Line, imageWidths, imageOf, fieldsLine, imageLine, imageFrom, imageNumber}
 
 -- ---- any widths
 
@@ -76,10 +77,6 @@ words-written zero (x ∷ xs) e = absurd (omega arith)
 words-written (suc n) [] e = absurd (omega arith)
 words-written (suc n) (x ∷ xs) e = ap₂ _++_ (word-field x) (words-written n xs (omega arith))
 
-tab-same : (n : ℕ) (f g : ℕ → ℕ) → ((i : ℕ) → f i ≡ g i) → tab n f ≡ tab n g
-tab-same zero f g h = refl
-tab-same (suc n) f g h = ap₂ _∷_ (h zero) (tab-same n (λ i. f (suc i)) (λ i. g (suc i)) (λ i. h (suc i)))
-
 pub words-read : (n : ℕ) (s : List ℕ) (i : ℕ) → fieldsAt (replicate n 4) s i ≡ tab n (λ k. wordAt s (i + 4 * k))
 words-read zero s i = refl
 words-read (suc n) s i =
@@ -112,32 +109,42 @@ long-number s i =
 
 -- ---- an image, by its words
 
-pub image-cipher : (img : List ℕ) → imageLine img .cipher ≡ getD img 0 0
-unfolding imageLine
-image-cipher img = one (getD img 0 0)
+-- a field of one byte
+byte-number : (s : List ℕ) (i : ℕ) → numberAt 1 s i ≡ getD s i 0
+byte-number s i = one (getD s i 0)
   where
     one : (x : ℕ) → x * 2 ^ 0 + 0 ≡ x
     one x = omega arith
+
+byte-field : (x : ℕ) → x < 2 ^ 8 → fieldBytes 1 x ≡ x ∷ []
+byte-field x h = let e : x / 2 ^ 0 % 2 ^ 8 ≡ x = omega (arith, h) in ap (λ (y : ℕ). y ∷ []) e
+
+pub image-cipher : (img : List ℕ) → imageLine img .cipher ≡ getD img 0 0
+unfolding imageLine
+image-cipher img = byte-number img 0
 
 pub image-position : (img : List ℕ) → imageLine img .n ≡ wordAt img 1 * 2 ^ 32 + wordAt img 5
 unfolding imageLine
 image-position img = long-number img 1
 
-pub image-state : (img : List ℕ) → imageLine img .words ≡ tab stateWords (λ k. wordAt img (13 + 4 * k))
+pub image-state : (img : List ℕ) → imageLine img .words ≡ tab stateWords (λ k. wordAt img (14 + 4 * k))
 unfolding imageLine
-image-state img = words-read stateWords img 13
+image-state img = words-read stateWords img 14
 
-pub image-number : (img : List ℕ) → imageNumber img ≡ wordAt img 9
+pub image-from : (img : List ℕ) → imageFrom img ≡ getD img 9 0
+unfolding imageFrom
+image-from img = byte-number img 9
+
+pub image-number : (img : List ℕ) → imageNumber img ≡ wordAt img 10
 unfolding imageNumber
-image-number img = word-number img 9
+image-number img = word-number img 10
 
-pub image-spelt : (k : ℕ) (l : Line) → l .cipher < 2 ^ 8 → length (l .words) ≡ stateWords → imageOf k l ≡ l .cipher ∷ spelt (l .n / 2 ^ 32 ∷ l .n % 2 ^ 32 ∷ k ∷ l .words)
-unfolding imageOf
-image-spelt k l h e =
-    let c : l .cipher / 2 ^ 0 % 2 ^ 8 ≡ l .cipher = omega (arith, h) in
-    ap₂ _∷_ c
-    (ap₂ _++_ (long-field (l .n)) (ap₂ _++_ (word-field k) (words-written stateWords (l .words) e))
-    ∙ append-assoc (bytesOf (l .n / 2 ^ 32)) (bytesOf (l .n % 2 ^ 32)) (spelt (k ∷ l .words)))
+pub image-spelt : (i k : ℕ) (l : Line) → i < 2 ^ 8 → l .cipher < 2 ^ 8 → length (l .words) ≡ stateWords →
+    imageOf i k l ≡ l .cipher ∷ (spelt (l .n / 2 ^ 32 ∷ l .n % 2 ^ 32 ∷ []) ++ (i ∷ spelt (k ∷ l .words)))
+unfolding imageOf bytesOf
+image-spelt i k l b h e =
+    ap₂ _++_ (byte-field (l .cipher) h)
+    (ap₂ _++_ (long-field (l .n)) (ap₂ _++_ (byte-field i b) (ap₂ _++_ (word-field k) (words-written stateWords (l .words) e))))
 
 -- ---- an image says exactly its line
 
@@ -157,18 +164,23 @@ pub record Sized (l : Line) : Type 0 where
   pub none-due : l .due ≡ 0
   pub none-waits : l .waiting ≡ zeros
 
-image-fields : (k : ℕ) → Word k → (l : Line) → Sized l → fieldsAt imageWidths (imageOf k l) 0 ≡ l .cipher ∷ l .n ∷ k ∷ l .words
-unfolding imageOf
-image-fields k h l s =
-    fields-back {ws = imageWidths} {xs = l .cipher ∷ l .n ∷ k ∷ l .words} (more (s .cipher) (more (s .pos) (more h (words-fit stateWords (l .words) (s .full) (s .words)))))
+module _ (i k : ℕ) (b : i < 2 ^ 8) (h : Word k) (l : Line) (s : Sized l) where
+  image-fields : fieldsAt imageWidths (imageOf i k l) 0 ≡ l .cipher ∷ l .n ∷ i ∷ k ∷ l .words
+  unfolding imageOf
+  image-fields =
+      fields-back {ws = imageWidths} {xs = l .cipher ∷ l .n ∷ i ∷ k ∷ l .words} (more (s .cipher) (more (s .pos) (more b (more h (words-fit stateWords (l .words) (s .full) (s .words))))))
 
--- and the number of its park
-pub number-back : (k : ℕ) → Word k → (l : Line) → Sized l → imageNumber (imageOf k l) ≡ k
-unfolding imageNumber
-number-back k h l s = ap (λ (x : List ℕ). getD x 2 0) (image-fields k h l s)
+  -- the line that parked it, and the number of its park
+  pub from-back : imageFrom (imageOf i k l) ≡ i
+  unfolding imageFrom
+  from-back = ap (λ (x : List ℕ). getD x 2 0) image-fields
 
-pub image-back : (k : ℕ) → Word k → (l : Line) → Sized l → imageLine (imageOf k l) ≡ l
-unfolding imageLine
-image-back k h l s =
-    ap fieldsLine (image-fields k h l s)
-    ∙ (λ j. record { mode = sym (s .up) j; cipher = l .cipher; n = l .n; words = l .words; due = sym (s .none-due) j; waiting = sym (s .none-waits) j })
+  pub number-back : imageNumber (imageOf i k l) ≡ k
+  unfolding imageNumber
+  number-back = ap (λ (x : List ℕ). getD x 3 0) image-fields
+
+  pub image-back : imageLine (imageOf i k l) ≡ l
+  unfolding imageLine
+  image-back =
+      ap fieldsLine image-fields
+      ∙ (λ j. record { mode = sym (s .up) j; cipher = l .cipher; n = l .n; words = l .words; due = sym (s .none-due) j; waiting = sym (s .none-waits) j })

@@ -167,7 +167,7 @@ started-same _ iv (good-loaded {c} {w} g k) e = ap (λ (x : Line). shown (plain 
 
 -- the words of an image of bytes
 image-words : (img : List ℕ) → All Byte img → All Word (imageLine img .words)
-image-words img h = subst (All Word) (sym (image-state img)) (all-tab 38 (λ i. wordAt img (13 + 4 * i)) (λ i q. wordAt-word h (13 + 4 * i)))
+image-words img h = subst (All Word) (sym (image-state img)) (all-tab 38 (λ i. wordAt img (14 + 4 * i)) (λ i q. wordAt-word h (14 + 4 * i)))
 
 pub resumed-good : (command : List ℕ) → All Byte command → imageOk (imageLine (imageIn command)) ≡ true → Good (based (imageLine (imageIn command)))
 unfolding based unitAt imageLine

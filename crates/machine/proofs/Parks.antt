@@ -1,277 +1,210 @@
--- A number that was taken up or replaced is never held again, since every park gets a number above all before it; and no park and no resume leaves a number above the count or held twice.
+-- A number of a line that was taken up or replaced is never held of it again, since every park from the line gets a number above all before it; and no park and no resume leaves a number above its
+-- line's count.
 -- Assumes nothing.
-use Prim.Native.Nat.{ℕ, zero, suc, _^_, _<_, _≤_}
-use mathlib.Core.Path.{_≡_, refl, ap, sym, _∙_}
-use mathlib.Core.List.{List, [], _∷_, map}
+use Prim.Native.Nat.{ℕ, zero, suc, _+_, _^_, _<_, _≤_}
+use mathlib.Core.Path.{_≡_, refl, ap, sym, subst, _∙_}
+use mathlib.Core.List.{List, [], _∷_}
 use mathlib.Core.Bool.{Bool, true, false, not}
 use native.Mathlib.Omega.{arith}
-use native.Mathlib.Decide.{ℕ-discrete}
+use native.Mathlib.Decide.{decLt, ℕ-discrete}
 use lib.Dec.{eqb, leb}
-use lib.ListN.{length, getD, set, length-set, length-map}
-use lib.Seq.{getD-set-same, getD-set-other}
+use lib.ListN.{length, getD, set, replicate, length-set, List·getD-eq-default}
+use lib.Seq.{getD-set-same, getD-set-other, set-out}
 use borrow.Author.Tests.{eqb-true, eqb-false, eq-eqb, ne-eqb, le-leb, leb-true, leb-false, not-true}
-use Rattle.words.specs.Tests.{both, pick}
-use Rattle.ciphers.specs.Table.{allOf}
+use Rattle.words.specs.Tests.{both}
 use Rattle.words.proofs.Tests.{both-left, both-right, both-true}
-use Rattle.command.specs.Rows.{either, among}
-use Rattle.machine.specs.Parks.{Parks, freshParks, lastPark, noMore, numberNow, parked, holds, clear, taken, onceEach, parksOk}
+use Rattle.card_sizes.specs.Sizes.{lineCount}
+use Rattle.machine.specs.Parks.{Parks, freshParks, countFor, heldFor, lastPark, noMore, numberNow, parked, holds, taken, noneAbove, parksOk}
 
--- number k was given out, and is held no more
-pub record Spent (p : Parks) (k : ℕ) : Type 0 where
-  pub given : k ≤ p .count
-  pub some : k ≡ 0 → ⊥
-  pub gone : among (p .held) k ≡ false
+-- ---- where a list is set
 
-either-no : {a b : Bool} → a ≡ false → b ≡ false → either a b ≡ false
-either-no h k = rw (h, k)
-
-either-yes : (a b : Bool) → b ≡ true → either a b ≡ true
-either-yes true b h = refl
-either-yes false b h = h
-
-left-no : (a b : Bool) → either a b ≡ false → a ≡ false
-left-no true b h = h
-left-no false b h = refl
-
-right-no : (a b : Bool) → either a b ≡ false → b ≡ false
-right-no true b h = absurd (let z : _≡_ {A = ℕ} 0 1 = cc in omega arith)
-right-no false b h = h
-
-pub spent-refused : (p : Parks) (k : ℕ) → Spent p k → holds p k ≡ false
-unfolding holds
-spent-refused p k s = go (not (eqb k 0)) (s .gone)
+-- what holds of the new number and held of the old ones
+set-either : (l : List ℕ) (j y i : ℕ) (P : ℕ → Type 0) → (i ≡ j → P y) → P (getD l i 0) → P (getD (set l j y) i 0)
+set-either l j y i P f g = by (ℕ-discrete i j)
   where
-    go : (b : Bool) → among (p .held) k ≡ false → both b (among (p .held) k) ≡ false
+    here : i ≡ j → Dec (j < length l) → P (getD (set l j y) i 0)
+    here e (yes q) = subst P (sym (ap (λ (k : ℕ). getD (set l j y) k 0) e ∙ getD-set-same l j y 0 q)) (f e)
+    here e (no q) = subst P (sym (ap (λ (x : List ℕ). getD x i 0) (set-out l j y (omega (arith, q))))) g
+
+    by : Dec (i ≡ j) → P (getD (set l j y) i 0)
+    by (yes e) = here e (decLt j (length l))
+    by (no n) = subst P (sym (getD-set-other l j i y 0 n)) g
+
+-- ---- a number that was given out
+
+-- number k was given to a park from line i
+pub record Given (p : Parks) (i k : ℕ) : Type 0 where
+  pub most : k ≤ countFor p i
+  pub some : k ≡ 0 → ⊥
+
+-- and is held of it no more
+pub record Spent (p : Parks) (i k : ℕ) : Type 0 where
+  pub given : Given p i k
+  pub gone : heldFor p i ≡ k → ⊥
+
+pub spent-refused : (p : Parks) (i k : ℕ) → Spent p i k → holds p i k ≡ false
+unfolding holds
+spent-refused p i k s = go (not (eqb k 0)) (ne-eqb (heldFor p i) k (s .gone))
+  where
+    go : (b : Bool) → eqb (heldFor p i) k ≡ false → both b (eqb (heldFor p i) k) ≡ false
     go true e = e
     go false e = refl
 
--- every number k is cleared
-cleared : (k : ℕ) → (k ≡ 0 → ⊥) → (l : List ℕ) → among (map (clear k) l) k ≡ false
-cleared k z [] = refl
-cleared k z (x ∷ l) = either-no (go (eqb k x) refl) (cleared k z l)
-  where
-    go : (b : Bool) → eqb k x ≡ b → eqb k (pick b 0 x) ≡ false
-    go true e = ne-eqb k 0 z
-    go false e = e
+pub holds-told : (p : Parks) (i k : ℕ) → holds p i k ≡ true → heldFor p i ≡ k
+unfolding holds
+holds-told p i k h = eqb-true (heldFor p i) k (both-right (not (eqb k 0)) _ h)
 
--- clearing k brings no other number in
-not-cleared : (k n : ℕ) → (n ≡ 0 → ⊥) → (l : List ℕ) → among l n ≡ false → among (map (clear k) l) n ≡ false
-not-cleared k n z [] h = refl
-not-cleared k n z (x ∷ l) h = either-no (go (eqb k x)) (not-cleared k n z l (right-no (eqb n x) (among l n) h))
-  where
-    go : (b : Bool) → eqb n (pick b 0 x) ≡ false
-    go true = ne-eqb n 0 z
-    go false = left-no (eqb n x) (among l n) h
+-- a number that is held is taken
+pub held-holds : (p : Parks) (i k : ℕ) → (k ≡ 0 → ⊥) → heldFor p i ≡ k → holds p i k ≡ true
+unfolding holds
+held-holds p i k z e = both-true (ap not (ne-eqb k 0 z)) (eq-eqb (heldFor p i) k e)
 
-not-set : (l : List ℕ) (i y n : ℕ) → (n ≡ y → ⊥) → among l n ≡ false → among (set l i y) n ≡ false
-not-set [] i y n z h = refl
-not-set (x ∷ l) zero y n z h = either-no (ne-eqb n y z) (right-no (eqb n x) (among l n) h)
-not-set (x ∷ l) (suc i) y n z h = either-no (left-no (eqb n x) (among l n) h) (not-set l i y n z (right-no (eqb n x) (among l n) h))
+-- ---- a park from line j
 
--- no member is above a bound
-above : (c : ℕ) (l : List ℕ) → allOf (λ x. leb x c) l ≡ true → (n : ℕ) → c < n → among l n ≡ false
-above c [] h n q = refl
-above c (x ∷ l) h n q =
-    let b = leb-true x c (both-left (leb x c) _ h) in
-    either-no (ne-eqb n x (λ e. omega (arith, b, q, e))) (above c l (both-right (leb x c) _ h) n q)
+-- its number is above those before it
+number-new : (p : Parks) (j i k : ℕ) → Given p i k → i ≡ j → k ≤ countFor p j
+number-new p j i k g e = subst (λ (x : ℕ). k ≤ countFor p x) e (g .most)
 
-below : (c : ℕ) (l : List ℕ) → allOf (λ x. leb x c) l ≡ true → (n : ℕ) → among l n ≡ true → n ≤ c
-below c [] h n q = absurd (let z : _≡_ {A = ℕ} 0 1 = cc in omega arith)
-below c (x ∷ l) h n q = go (eqb n x) refl q (below c l (both-right (leb x c) _ h) n)
-  where
-    go : (b : Bool) → eqb n x ≡ b → either b (among l n) ≡ true → (among l n ≡ true → n ≤ c) → n ≤ c
-    go true e _ f = let y = eqb-true n x e in let b = leb-true x c (both-left (leb x c) _ h) in omega (arith, y, b)
-    go false e r f = f r
+pub parked-given : (p : Parks) (j i k : ℕ) → Given p i k → Given (parked p j) i k
+unfolding parked numberNow
+parked-given p j i k g =
+    record { most = set-either (p .counts) j (suc (countFor p j)) i (λ x. k ≤ x) (λ e. let z = number-new p j i k g e in omega (arith, z)) (g .most); some = g .some }
 
--- the number of a line is one of them
-member : (l : List ℕ) (i k : ℕ) → i < length l → getD l i 0 ≡ k → among l k ≡ true
-member [] i k q e = absurd (omega (arith, q))
-member (x ∷ l) zero k q e = ap (λ (b : Bool). either b (among l k)) (eq-eqb k x (sym e))
-member (x ∷ l) (suc i) k q e = either-yes (eqb k x) (among l k) (member l i k (omega (arith, q)) e)
-
-pub taken-spent : (p : Parks) (k : ℕ) → parksOk p ≡ true → holds p k ≡ true → Spent (taken p k) k
-unfolding taken parksOk holds
-taken-spent p k ok h =
-    let z : k ≡ 0 → ⊥ = eqb-false k 0 (not-true (eqb k 0) (both-left (not (eqb k 0)) _ h)) in
+pub parked-keeps : (p : Parks) (j i k : ℕ) → Spent p i k → Spent (parked p j) i k
+unfolding parked numberNow
+parked-keeps p j i k s =
     record {
-      given = below (p .count) (p .held) (both-left _ (onceEach (p .held)) ok) k (both-right (not (eqb k 0)) _ h);
-      some = z;
-      gone = cleared k z (p .held);
+      given = parked-given p j i k (s .given);
+      gone = set-either (p .held) j (suc (countFor p j)) i (λ x. x ≡ k → ⊥) (λ e q. let z = number-new p j i k (s .given) e in omega (arith, z, q)) (s .gone);
     }
 
-pub taken-keeps : (p : Parks) (j k : ℕ) → Spent p k → Spent (taken p j) k
-unfolding taken
-taken-keeps p j k s = record { given = s .given; some = s .some; gone = not-cleared j k (s .some) (p .held) (s .gone) }
+-- a later park from its line spends a number
+pub replaced-spent : (p : Parks) (i k : ℕ) → i < length (p .held) → Given p i k → Spent (parked p i) i k
+unfolding parked numberNow
+replaced-spent p i k q g =
+    let m = g .most in
+    record { given = parked-given p i i k g; gone = λ e. let n = sym (getD-set-same (p .held) i (suc (countFor p i)) 0 q) ∙ e in omega (arith, m, n) }
 
-pub parked-keeps : (p : Parks) (i k : ℕ) → Spent p k → Spent (parked p i) k
+-- the number that a park gives is held of its line
+pub now-given : (p : Parks) (i : ℕ) → i < length (p .counts) → Given (parked p i) i (numberNow p i)
+unfolding parked numberNow
+now-given p i q = record { most = let e = getD-set-same (p .counts) i (suc (countFor p i)) 0 q in omega (arith, e); some = λ e. omega (arith, e) }
+
+pub now-held : (p : Parks) (i : ℕ) → i < length (p .held) → heldFor (parked p i) i ≡ numberNow p i
+unfolding parked numberNow
+now-held p i q = getD-set-same (p .held) i (suc (countFor p i)) 0 q
+
+pub now-counted : (p : Parks) (i : ℕ) → i < length (p .counts) → countFor (parked p i) i ≡ countFor p i + 1
+unfolding parked numberNow
+now-counted p i q = getD-set-same (p .counts) i (suc (countFor p i)) 0 q ∙ omega arith
+
+-- a park from another line leaves what is held, and the count
+pub parked-other : (p : Parks) (j i : ℕ) → (i ≡ j → ⊥) → heldFor (parked p j) i ≡ heldFor p i
 unfolding parked
-parked-keeps p i k s =
-    let g = s .given in
-    record { given = omega (arith, g); some = s .some; gone = not-set (p .held) i (suc (p .count)) k (λ e. omega (arith, g, e)) (s .gone) }
+parked-other p j i ne = getD-set-other (p .held) j i (numberNow p j) 0 ne
+
+pub counted-other : (p : Parks) (j i : ℕ) → (i ≡ j → ⊥) → countFor (parked p j) i ≡ countFor p i
+unfolding parked
+counted-other p j i ne = getD-set-other (p .counts) j i (numberNow p j) 0 ne
+
+-- ---- a resume that takes up the number of line j
+
+pub taken-given : (p : Parks) (j i k : ℕ) → Given p i k → Given (taken p j) i k
+unfolding taken
+taken-given p j i k g = record { most = g .most; some = g .some }
+
+pub taken-keeps : (p : Parks) (j i k : ℕ) → Spent p i k → Spent (taken p j) i k
+unfolding taken
+taken-keeps p j i k s =
+    record { given = taken-given p j i k (s .given); gone = set-either (p .held) j 0 i (λ x. x ≡ k → ⊥) (λ _ e. s .given .some (sym e)) (s .gone) }
+
+pub taken-count : (p : Parks) (j i : ℕ) → countFor (taken p j) i ≡ countFor p i
+unfolding taken
+taken-count p j i = refl
+
+-- and leaves that of another line
+pub taken-other : (p : Parks) (j i : ℕ) → (i ≡ j → ⊥) → heldFor (taken p j) i ≡ heldFor p i
+unfolding taken
+taken-other p j i ne = getD-set-other (p .held) j i 0 0 ne
 
 -- ---- 255 is not given
 
-set-bound : (c : ℕ) (l : List ℕ) (i : ℕ) → allOf (λ x. leb x c) l ≡ true → allOf (λ x. leb x (suc c)) (set l i (suc c)) ≡ true
-set-bound c [] i h = refl
-set-bound c (x ∷ l) zero h = both-true (le-leb (suc c) (suc c) (omega arith)) (up l (both-right (leb x c) _ h))
+-- there are as many counts and held numbers as lines
+pub record Long (p : Parks) : Type 0 where
+  pub counts : length (p .counts) ≡ lineCount
+  pub held : length (p .held) ≡ lineCount
+
+pub parked-long : (p : Parks) (i : ℕ) → Long p → Long (parked p i)
+unfolding parked
+parked-long p i l = record { counts = length-set (p .counts) i (numberNow p i) ∙ l .counts; held = length-set (p .held) i (numberNow p i) ∙ l .held }
+
+pub taken-long : (p : Parks) (i : ℕ) → Long p → Long (taken p i)
+unfolding taken
+taken-long p i l = record { counts = l .counts; held = length-set (p .held) i 0 ∙ l .held }
+
+-- the test, line by line
+above-told : (k : ℕ) (p : Parks) → noneAbove k p ≡ true → (i : ℕ) → i < k → heldFor p i ≤ countFor p i
+above-told zero p h i q = absurd (omega (arith, q))
+above-told (suc k) p h i q = by (ℕ-discrete i k) (above-told k p (both-left (noneAbove k p) _ h) i)
   where
-    up : (l : List ℕ) → allOf (λ x. leb x c) l ≡ true → allOf (λ x. leb x (suc c)) l ≡ true
-    up [] h = refl
-    up (x ∷ l) h = both-true (le-leb x (suc c) (let b = leb-true x c (both-left (leb x c) _ h) in omega (arith, b))) (up l (both-right (leb x c) _ h))
-set-bound c (x ∷ l) (suc i) h = both-true (le-leb x (suc c) (let b = leb-true x c (both-left (leb x c) _ h) in omega (arith, b))) (set-bound c l i (both-right (leb x c) _ h))
+    by : Dec (i ≡ k) → (i < k → heldFor p i ≤ countFor p i) → heldFor p i ≤ countFor p i
+    by (yes e) f = subst (λ (x : ℕ). heldFor p x ≤ countFor p x) (sym e) (leb-true (heldFor p k) (countFor p k) (both-right (noneAbove k p) _ h))
+    by (no n) f = f (omega (arith, q, n))
 
-clear-bound : (c k : ℕ) (l : List ℕ) → allOf (λ x. leb x c) l ≡ true → allOf (λ x. leb x c) (map (clear k) l) ≡ true
-clear-bound c k [] h = refl
-clear-bound c k (x ∷ l) h = both-true (go (eqb k x)) (clear-bound c k l (both-right (leb x c) _ h))
+pub above-all : (k : ℕ) (p : Parks) → ((i : ℕ) → heldFor p i ≤ countFor p i) → noneAbove k p ≡ true
+above-all zero p f = refl
+above-all (suc k) p f = both-true (above-all k p f) (le-leb (heldFor p k) (countFor p k) (f k))
+
+pub above-bad : (k : ℕ) (p : Parks) (i : ℕ) → i < k → countFor p i < heldFor p i → noneAbove k p ≡ false
+above-bad k p i q h = by (noneAbove k p) refl
   where
-    go : (b : Bool) → leb (pick b 0 x) c ≡ true
-    go true = le-leb 0 c (omega arith)
-    go false = both-left (leb x c) _ h
+    by : (b : Bool) → noneAbove k p ≡ b → b ≡ false
+    by true e = let z = above-told k p e i q in absurd (omega (arith, h, z))
+    by false e = refl
 
--- a number that may stand before a list: 0, or not in it
-stands : (x : ℕ) (l l' : List ℕ) → ((x ≡ 0 → ⊥) → among l x ≡ false → among l' x ≡ false) → either (eqb x 0) (not (among l x)) ≡ true → either (eqb x 0) (not (among l' x)) ≡ true
-stands x l l' f h = go (eqb x 0) refl h
+pub above-more : (k : ℕ) (p : Parks) → noneAbove k p ≡ true → heldFor p k ≤ countFor p k → noneAbove (suc k) p ≡ true
+above-more k p e h = both-true e (le-leb (heldFor p k) (countFor p k) h)
+
+-- beyond the lines nothing is held
+pub ok-below : (p : Parks) → Long p → parksOk p ≡ true → (i : ℕ) → heldFor p i ≤ countFor p i
+unfolding parksOk
+ok-below p l h i = by (decLt i lineCount)
   where
-    go : (b : Bool) → eqb x 0 ≡ b → either b (not (among l x)) ≡ true → either b (not (among l' x)) ≡ true
-    go true e q = refl
-    go false e q = ap not (f (eqb-false x 0 e) (not-true (among l x) q))
+    by : Dec (i < lineCount) → heldFor p i ≤ countFor p i
+    by (yes q) = above-told lineCount p h i q
+    by (no q) = let n = l .held in let z = List·getD-eq-default (p .held) 0 (let r : length (p .held) ≤ i = omega (arith, n, q) in r) in omega (arith, z)
 
-once-set : (l : List ℕ) (i y : ℕ) → among l y ≡ false → onceEach l ≡ true → onceEach (set l i y) ≡ true
-once-set [] i y h o = refl
-once-set (x ∷ l) zero y h o = both-true (either-yes (eqb y 0) _ (ap not (right-no (eqb y x) (among l y) h))) (both-right (either (eqb x 0) (not (among l x))) _ o)
-once-set (x ∷ l) (suc i) y h o =
-    both-true
-    (stands x l (set l i y) (λ z q. not-set l i y x (λ e. eqb-false y x (left-no (eqb y x) (among l y) h) (sym e)) q) (both-left (either (eqb x 0) (not (among l x))) _ o))
-    (once-set l i y (right-no (eqb y x) (among l y) h) (both-right (either (eqb x 0) (not (among l x))) _ o))
-
-once-clear : (k : ℕ) (l : List ℕ) → onceEach l ≡ true → onceEach (map (clear k) l) ≡ true
-once-clear k [] o = refl
-once-clear k (x ∷ l) o = both-true (go (eqb k x)) (once-clear k l (both-right (either (eqb x 0) (not (among l x))) _ o))
-  where
-    go : (b : Bool) → either (eqb (pick b 0 x) 0) (not (among (map (clear k) l) (pick b 0 x))) ≡ true
-    go true = refl
-    go false = stands x l (map (clear k) l) (λ z q. not-cleared k x z l q) (both-left (either (eqb x 0) (not (among l x))) _ o)
-
-pub parked-ok : (p : Parks) (i : ℕ) → parksOk p ≡ true → parksOk (parked p i) ≡ true
+pub parked-ok : (p : Parks) (i : ℕ) → Long p → parksOk p ≡ true → parksOk (parked p i) ≡ true
 unfolding parksOk parked
-parked-ok p i h =
-    let b = both-left _ (onceEach (p .held)) h in
-    both-true (set-bound (p .count) (p .held) i b) (once-set (p .held) i (suc (p .count)) (above (p .count) (p .held) b (suc (p .count)) (omega arith)) (both-right (allOf (λ x. leb x (p .count)) (p .held)) (onceEach (p .held)) h))
+parked-ok p j l h = above-all lineCount (parked p j) (λ i. both-set (p .counts) (p .held) (numberNow p j) (l .counts ∙ sym (l .held)) (ok-below p l h) j i)
+  where
+    both-set : (c h : List ℕ) (y : ℕ) → length c ≡ length h → ((i : ℕ) → getD h i 0 ≤ getD c i 0) → (j i : ℕ) → getD (set h j y) i 0 ≤ getD (set c j y) i 0
+    both-set [] [] y e b j i = omega arith
+    both-set [] (x ∷ h) y e b j i = absurd (omega (arith, e))
+    both-set (x ∷ c) [] y e b j i = absurd (omega (arith, e))
+    both-set (x ∷ c) (z ∷ h) y e b zero zero = omega arith
+    both-set (x ∷ c) (z ∷ h) y e b zero (suc i) = b (suc i)
+    both-set (x ∷ c) (z ∷ h) y e b (suc j) zero = b zero
+    both-set (x ∷ c) (z ∷ h) y e b (suc j) (suc i) = both-set c h y (let q : length c ≡ length h = omega (arith, e) in q) (λ k. b (suc k)) j i
 
-pub taken-ok : (p : Parks) (k : ℕ) → parksOk p ≡ true → parksOk (taken p k) ≡ true
+pub taken-ok : (p : Parks) (i : ℕ) → Long p → parksOk p ≡ true → parksOk (taken p i) ≡ true
 unfolding parksOk taken
-taken-ok p k h = both-true (clear-bound (p .count) k (p .held) (both-left _ (onceEach (p .held)) h)) (once-clear k (p .held) (both-right (allOf (λ x. leb x (p .count)) (p .held)) (onceEach (p .held)) h))
+taken-ok p j l h = above-all lineCount (taken p j) (λ i. set-either (p .held) j 0 i (λ x. x ≤ countFor p i) (λ _. omega arith) (ok-below p l h i))
 
--- ---- a parked number stays held until its line parks again or it is taken up
-
--- the number that a park gives is held of its line
-pub now-held : (p : Parks) (i : ℕ) → i < length (p .held) → getD (parked p i .held) i 0 ≡ numberNow p
-unfolding parked numberNow
-now-held p i q = getD-set-same (p .held) i (suc (p .count)) 0 q
-
--- a park from another line leaves it
-pub parked-other : (p : Parks) (j i : ℕ) → (i ≡ j → ⊥) → getD (parked p j .held) i 0 ≡ getD (p .held) i 0
-unfolding parked
-parked-other p j i ne = getD-set-other (p .held) j i (suc (p .count)) 0 ne
-
--- and so does a resume with another number
-pub taken-other : (p : Parks) (n i k : ℕ) → (n ≡ k → ⊥) → getD (p .held) i 0 ≡ k → getD (taken p n .held) i 0 ≡ k
-unfolding taken
-taken-other p n i k ne e = go (p .held) i e
+-- one that is taken up is spent
+pub taken-spent : (p : Parks) (i k : ℕ) → Long p → parksOk p ≡ true → holds p i k ≡ true → Spent (taken p i) i k
+unfolding taken holds
+taken-spent p i k l ok h =
+    let e = eqb-true (heldFor p i) k (both-right (not (eqb k 0)) _ h) in
+    let b = ok-below p l ok i in
+    record { given = record { most = omega (arith, b, e); some = some }; gone = by (decLt i (length (p .held))) e }
   where
-    keep : (x : ℕ) → x ≡ k → (b : Bool) → eqb n x ≡ b → pick b 0 x ≡ k
-    keep x q true z = absurd (ne (eqb-true n x z ∙ q))
-    keep x q false z = q
+    some : k ≡ 0 → ⊥
+    some = eqb-false k 0 (not-true (eqb k 0) (both-left (not (eqb k 0)) _ h))
 
-    go : (l : List ℕ) (i : ℕ) → getD l i 0 ≡ k → getD (map (clear n) l) i 0 ≡ k
-    go [] i q = q
-    go (x ∷ l) zero q = keep x q (eqb n x) refl
-    go (x ∷ l) (suc i) q = go l i q
-
--- one that is held is taken
-pub held-holds : (p : Parks) (i k : ℕ) → i < length (p .held) → (k ≡ 0 → ⊥) → getD (p .held) i 0 ≡ k → holds p k ≡ true
-unfolding holds
-held-holds p i k q z e = both-true (ap not (ne-eqb k 0 z)) (member (p .held) i k q e)
-
--- ---- a number that was given out to a park from line i
-
--- no other line holds it
-pub record Own (p : Parks) (i k : ℕ) : Type 0 where
-  pub given : k ≤ p .count
-  pub some : k ≡ 0 → ⊥
-  pub alone : (j : ℕ) → (j ≡ i → ⊥) → getD (p .held) j 0 ≡ k → ⊥
-
-at-most : (c : ℕ) (l : List ℕ) → allOf (λ x. leb x c) l ≡ true → (j : ℕ) → getD l j 0 ≤ c
-at-most c [] h j = omega arith
-at-most c (x ∷ l) h zero = leb-true x c (both-left (leb x c) _ h)
-at-most c (x ∷ l) h (suc j) = at-most c l (both-right (leb x c) _ h) j
-
-pub parked-own : (p : Parks) (i : ℕ) → parksOk p ≡ true → Own (parked p i) i (numberNow p)
-unfolding parked parksOk numberNow
-parked-own p i ok =
-    record {
-      given = omega arith;
-      some = λ e. omega (arith, e);
-      alone =
-          λ j f e.
-          let b = at-most (p .count) (p .held) (both-left _ (onceEach (p .held)) ok) j in
-          let q = getD-set-other (p .held) i j (suc (p .count)) 0 f in
-          omega (arith, b, q, e);
-    }
-
--- a number that stands where another was set, or where one was cleared, stood there before
-set-was : (l : List ℕ) (i y j k : ℕ) → (y ≡ k → ⊥) → getD (set l i y) j 0 ≡ k → getD l j 0 ≡ k
-set-was [] i y j k f e = e
-set-was (x ∷ l) zero y zero k f e = absurd (f e)
-set-was (x ∷ l) zero y (suc j) k f e = e
-set-was (x ∷ l) (suc i) y zero k f e = e
-set-was (x ∷ l) (suc i) y (suc j) k f e = set-was l i y j k f e
-
-clear-was : (n : ℕ) (l : List ℕ) (j k : ℕ) → (k ≡ 0 → ⊥) → getD (map (clear n) l) j 0 ≡ k → getD l j 0 ≡ k
-clear-was n [] j k z e = e
-clear-was n (x ∷ l) zero k z e = go (eqb n x) e
-  where
-    go : (b : Bool) → pick b 0 x ≡ k → x ≡ k
-    go true q = absurd (z (sym q))
-    go false q = q
-clear-was n (x ∷ l) (suc j) k z e = clear-was n l j k z e
-
-pub parked-keeps-own : (p : Parks) (j i k : ℕ) → Own p i k → Own (parked p j) i k
-unfolding parked
-parked-keeps-own p j i k o =
-    let g = o .given in
-    record {
-      given = omega (arith, g);
-      some = o .some;
-      alone = λ x f e. o .alone x f (set-was (p .held) j (suc (p .count)) x k (λ q. omega (arith, g, q)) e);
-    }
-
-pub taken-keeps-own : (p : Parks) (n i k : ℕ) → Own p i k → Own (taken p n) i k
-unfolding taken
-taken-keeps-own p n i k o = record { given = o .given; some = o .some; alone = λ x f e. o .alone x f (clear-was n (p .held) x k (o .some) e) }
-
--- a later park from its line spends it
-nowhere : (l : List ℕ) (k : ℕ) → ((j : ℕ) → getD l j 0 ≡ k → ⊥) → among l k ≡ false
-nowhere [] k f = refl
-nowhere (x ∷ l) k f = either-no (ne-eqb k x (λ e. f 0 (sym e))) (nowhere l k (λ j. f (suc j)))
-
-set-here : (l : List ℕ) (i y k : ℕ) → (y ≡ k → ⊥) → (k ≡ 0 → ⊥) → getD (set l i y) i 0 ≡ k → ⊥
-set-here [] i y k f z e = z (sym e)
-set-here (x ∷ l) zero y k f z e = f e
-set-here (x ∷ l) (suc i) y k f z e = set-here l i y k f z e
-
-pub replaced-spent : (p : Parks) (i k : ℕ) → Own p i k → Spent (parked p i) k
-unfolding parked
-replaced-spent p i k o =
-    let g = o .given in
-    record { given = omega (arith, g); some = o .some; gone = nowhere (set (p .held) i (suc (p .count))) k (λ j e. by j e (ℕ-discrete j i)) }
-  where
-    new : suc (p .count) ≡ k → ⊥
-    new q = let g = o .given in omega (arith, g, q)
-
-    by : (j : ℕ) → getD (set (p .held) i (suc (p .count))) j 0 ≡ k → Dec (j ≡ i) → ⊥
-    by j e (no f) = o .alone j f (set-was (p .held) i (suc (p .count)) j k new e)
-    by j e (yes z) = set-here (p .held) i (suc (p .count)) k new (o .some) (ap (λ (x : ℕ). getD (set (p .held) i (suc (p .count))) x 0) (sym z) ∙ e)
+    by : Dec (i < length (p .held)) → heldFor p i ≡ k → getD (set (p .held) i 0) i 0 ≡ k → ⊥
+    by (yes q) e g = some (sym g ∙ getD-set-same (p .held) i 0 0 q)
+    by (no q) e g = some (sym e ∙ List·getD-eq-default (p .held) 0 (omega (arith, q)))
 
 -- ---- a fresh card
 
@@ -279,19 +212,20 @@ pub fresh-ok : parksOk freshParks ≡ true
 unfolding parksOk
 fresh-ok = refl
 
+pub fresh-long : Long freshParks
+fresh-long = record { counts = refl; held = refl }
+
+pub fresh-count : (i : ℕ) → countFor freshParks i ≡ 0
+fresh-count i = none lineCount i
+  where
+    none : (k i : ℕ) → getD {A = ℕ} (replicate k 0) i 0 ≡ 0
+    none zero i = refl
+    none (suc k) zero = refl
+    none (suc k) (suc i) = none k i
+
 -- ---- the number that a park writes
 
 -- a park that is left to be made has a number of 32 bits
-pub number-word : (p : Parks) → noMore p ≡ false → numberNow p < 2 ^ 32
+pub number-word : (p : Parks) (i : ℕ) → noMore p i ≡ false → numberNow p i < 2 ^ 32
 unfolding noMore numberNow
-number-word p h = let b = leb-false lastPark (p .count) h in omega (arith, b)
-
--- ---- there are as many held as before
-
-pub parked-long : (p : Parks) (i : ℕ) → length (parked p i .held) ≡ length (p .held)
-unfolding parked
-parked-long p i = length-set (p .held) i (suc (p .count))
-
-pub taken-long : (p : Parks) (k : ℕ) → length (taken p k .held) ≡ length (p .held)
-unfolding taken
-taken-long p k = length-map (p .held) (clear k)
+number-word p i h = let b = leb-false lastPark (countFor p i) h in omega (arith, b)

@@ -18,7 +18,7 @@ use Rattle.ciphers.specs.Table.{isCipher, cipherAt, mugi}
 use Rattle.ciphers.specs.Fit.{Fit}
 use Rattle.ciphers.proofs.States.{all-take}
 use Rattle.ciphers.proofs.Rows.{key-fits}
-use Rattle.words.proofs.Tests.{both-true}
+use Rattle.words.proofs.Tests.{both-left, both-true}
 use Rattle.command.specs.Rows.{either}
 use Rattle.command.proofs.Rows.{either-left, either-right}
 use Rattle.command.specs.declared.Cipher.{Cipher}
@@ -29,11 +29,11 @@ use Rattle.command.specs.declared.Decoded.{Decoded}
 use Rattle.command.specs.declared.Decoded.the-variants.{Run, Refused}
 use Rattle.command.specs.Decode.{decodeOf, numberOf, operandsOf}
 use Rattle.card_moves.specs.Moves.{positionOn}
-use Rattle.machine.specs.Machine.{Line, MLine, Machine, idle, shown, based, moved, enciphered, changed, startedLine, imageOf, lineAt, seen, back, lineCount, View, noView, viewOf, public, viewAt, isOpen, isLoaded, waits, limit, keyField, ivField, keyFor, blankKey, streamOf, Call, Effect, refuse, put, crypt, park, resume, change, start, effectOf, ofDecoded, decide, answer, perform, step, shows, cardStep, freshMachine, freshCard}
+use Rattle.machine.specs.Machine.{Line, MLine, Machine, idle, shown, based, moved, enciphered, changed, startedLine, imageOf, imageIn, fromOk, lineAt, seen, back, lineCount, View, noView, viewOf, public, viewAt, isOpen, isLoaded, waits, limit, keyField, ivField, keyFor, blankKey, streamOf, Call, Effect, refuse, put, crypt, park, resume, change, start, effectOf, ofDecoded, decide, answer, perform, step, shows, cardStep, freshMachine, freshCard}
 use Rattle.machine.specs.Parks.{freshParks, numberNow, parked, taken, parksOk}
 use Rattle.machine.specs.Calls.{CallBytes}
 use Rattle.machine.proofs.Lines.{Good, good-idle, shown-idle, shown-based, all-ok, opened-good, loaded-good, started-good, started-same, resumed-good, stream-fit, moved-same, crypted-same, changed-same, moved-good, changed-good, good-behind}
-use Rattle.machine.proofs.Parks.{parked-ok, taken-ok, fresh-ok, parked-long, taken-long}
+use Rattle.machine.proofs.Parks.{Long, parked-ok, taken-ok, fresh-ok, fresh-long, parked-long, taken-long}
 use Rattle.machine.proofs.Rows.{Passed, passed, decided-by}
 
 -- ---- every line
@@ -56,10 +56,10 @@ good-set (more-good x h) (suc i) g = more-good x (good-set h i g)
 pub record GoodCard (m : Machine) : Type 0 where
   pub lines : AllGood (m .lines)
   pub parks : parksOk (m .parks) ≡ true
-  pub long : length (m .parks .held) ≡ lineCount
+  pub long : Long (m .parks)
 
 pub fresh-good : GoodCard freshMachine
-fresh-good = record { lines = eight 8; parks = fresh-ok; long = refl }
+fresh-good = record { lines = eight 8; parks = fresh-ok; long = fresh-long }
   where
     eight : (k : ℕ) → AllGood (replicate k idle)
     eight zero = none-good
@@ -145,7 +145,7 @@ module _ (m : Machine) (a : Call) where
       (all-take (cipherAt (numberOf c) .iv) (all-take 16 (all-drop 35 (b .command)))))
   fair-effect b (Crypt i n) p = fair-crypt (is-open i (passed 6 p)) (in-limit i n (passed 13 p)) (ltb-false (length (a .text)) n (passed 11 p))
   fair-effect b (Park i) p = fair-park (is-open i (passed 6 p))
-  fair-effect b (Resume i) p = fair-resume (resumed-good (a .command) (b .command) (not-false _ (passed 8 p)))
+  fair-effect b (Resume i) p = fair-resume (resumed-good (a .command) (b .command) (both-left _ (fromOk (imageIn (a .command))) (not-false _ (passed 8 p))))
   fair-effect b (Close i) p = fair-put good-idle
   fair-effect b (Change i k q) p =
       let o = operandsOf (Change i k q) in
@@ -210,8 +210,8 @@ module _ (m : Machine) (good : GoodCard m) (a : Call) (b : CallBytes a) where
       let w = ap (λ (x : MLine). enciphered x (take n (a .text))) g ∙ crypted-same l h (take n (a .text)) in
       λ j. record { outcome = answer 0 size n (w j); card = record { lines = set-same i (moved (lineAt (back (seen m)) i) n) (moved l n) s j; parks = m .parks } }
   perform-same (park i size) (fair-park p) =
-      let k = numberNow (m .parks) in
-      let w = ap (λ (x : MLine). imageOf k (shown x)) (get-same (m .lines) i) ∙ ap (imageOf k) (shown-based (shown (lineAt m i))) in
+      let k = numberNow (m .parks) i in
+      let w = ap (λ (x : MLine). imageOf i k (shown x)) (get-same (m .lines) i) ∙ ap (imageOf i k) (shown-based (shown (lineAt m i))) in
       λ j. record { outcome = answer 0 size 0 (w j); card = record { lines = set-same i idle idle refl j; parks = parked (m .parks) i } }
   perform-same (resume i l k size) (fair-resume f) = λ j. record { outcome = answer 0 size 0 []; card = record { lines = set-same i l l refl j; parks = taken (m .parks) k } }
   perform-same (change i p s size) (fair-change up le lim fit) =
@@ -229,8 +229,8 @@ module _ (m : Machine) (good : GoodCard m) (a : Call) (b : CallBytes a) where
   perform-good (refuse k) fair-refuse = good
   perform-good (put i l size) (fair-put f) = record { lines = good-set (good .lines) i f; parks = good .parks; long = good .long }
   perform-good (crypt i n size) (fair-crypt p q r) = record { lines = good-set (good .lines) i (moved-good (lineAt m i) n (good-get (good .lines) i) p q); parks = good .parks; long = good .long }
-  perform-good (park i size) (fair-park p) = record { lines = good-set (good .lines) i good-idle; parks = parked-ok (m .parks) i (good .parks); long = parked-long (m .parks) i ∙ good .long }
-  perform-good (resume i l k size) (fair-resume f) = record { lines = good-set (good .lines) i f; parks = taken-ok (m .parks) k (good .parks); long = taken-long (m .parks) k ∙ good .long }
+  perform-good (park i size) (fair-park p) = record { lines = good-set (good .lines) i good-idle; parks = parked-ok (m .parks) i (good .long) (good .parks); long = parked-long (m .parks) i (good .long) }
+  perform-good (resume i l k size) (fair-resume f) = record { lines = good-set (good .lines) i f; parks = taken-ok (m .parks) k (good .long) (good .parks); long = taken-long (m .parks) k (good .long) }
   perform-good (change i p s size) (fair-change up le lim fit) =
       record { lines = good-set (good .lines) i (changed-good (lineAt m i) p s (good-get (good .lines) i) up le lim fit); parks = good .parks; long = good .long }
   perform-good (start i iv size) (fair-start up h) =

@@ -133,25 +133,29 @@ changed l p s =
     pick (eqb p (l .pos)) (renewed l s)
     (record { mode = l .mode; cipher = l .cipher; base = l .base; from = l .from; pos = l .pos; due = p; waiting = s })
 
--- ---- images: a field of 1 byte for the cipher, one of 8 for n, one of 4 for the park's number, and one of 4 for each of the state's words with the zeros after them
+-- ---- images: a field of 1 byte for the cipher, one of 8 for n, one of 1 for the line that parked, one of 4 for the park's number, and one of 4 for each of the state's words with the zeros after them
 
 abbrev pub imageWidths : List ℕ
-imageWidths = 1 ∷ 8 ∷ 4 ∷ replicate stateWords 4
+imageWidths = 1 ∷ 8 ∷ 1 ∷ 4 ∷ replicate stateWords 4
 
--- the image that the park of number k makes of a line
-unfoldable pub imageOf : ℕ → Line → List ℕ
-imageOf k l = inFields imageWidths (l .cipher ∷ l .n ∷ k ∷ l .words)
+-- the image that the park of number k from line i makes of a line
+unfoldable pub imageOf : (i k : ℕ) → Line → List ℕ
+imageOf i k l = inFields imageWidths (l .cipher ∷ l .n ∷ i ∷ k ∷ l .words)
 
 -- the open line that an image holds
 abbrev pub fieldsLine : List ℕ → Line
-fieldsLine xs = plainLine 1 (getD xs 0 0) (getD xs 1 0) (drop 3 xs)
+fieldsLine xs = plainLine 1 (getD xs 0 0) (getD xs 1 0) (drop 4 xs)
 
 unfoldable pub imageLine : List ℕ → Line
 imageLine img = fieldsLine (fieldsAt imageWidths img 0)
 
+-- the line that parked it
+unfoldable pub imageFrom : List ℕ → ℕ
+imageFrom img = getD (fieldsAt imageWidths img 0) 2 0
+
 -- and the number of its park
 unfoldable pub imageNumber : List ℕ → ℕ
-imageNumber img = getD (fieldsAt imageWidths img 0) 2 0
+imageNumber img = getD (fieldsAt imageWidths img 0) 3 0
 
 -- the image that a resume brings
 abbrev pub imageIn : List ℕ → List ℕ
@@ -165,6 +169,10 @@ stateOk c n w = both (isCipher c) (both (leb n limit) (cipherAt c .admits w))
 
 abbrev pub imageOk : Line → Bool
 imageOk l = stateOk (l .cipher) (l .n) (l .words)
+
+-- and of an image the line that parked it
+abbrev pub fromOk : List ℕ → Bool
+fromOk img = ltb (imageFrom img) lineCount
 
 -- nothing waits on a line of cipher c at n, or a change above n with an S(0) that an image may have at its position
 unfoldable pub changeOk : (c n due : ℕ) → List ℕ → Bool
@@ -329,14 +337,14 @@ blankKey c key = allZero (keyFor c key)
 
 -- ---- what is to be done
 
--- a refusal; a line put in the place of line i; count bytes crypted on line i; line i parked; a line put in the place of line i that takes up park k; line i that is to change at position p to
--- the stream of S(0) s; line i started with an IV; each with the bytes of the command
+-- a refusal; a line put in the place of line i; count bytes crypted on line i; line i parked; a line put in the place of line i that takes up the number of line j; line i that is to change at
+-- position p to the stream of S(0) s; line i started with an IV; each with the bytes of the command
 pub data Effect : Type 0 where
   refuse : ℕ → Effect
   put : (i : ℕ) (l : MLine) (size : ℕ) → Effect
   crypt : (i count size : ℕ) → Effect
   park : (i size : ℕ) → Effect
-  resume : (i : ℕ) (l : MLine) (k size : ℕ) → Effect
+  resume : (i : ℕ) (l : MLine) (j size : ℕ) → Effect
   change : (i p : ℕ) (s : List ℕ) (size : ℕ) → Effect
   start : (i : ℕ) (iv : List ℕ) (size : ℕ) → Effect
 
@@ -353,7 +361,7 @@ effectOf (Tray i c k) v a = put i (openedBy (operandsOf (Tray i c k)) a) (sizeOf
 effectOf (Own i c) v a = put i (openedBy (operandsOf (Own i c)) a) (sizeOf (Own i c))
 effectOf (Crypt i n) v a = crypt i n (sizeOf (Crypt i n))
 effectOf (Park i) v a = park i (sizeOf (Park i))
-effectOf (Resume i) v a = resume i (based (imageLine (imageIn (a .command)))) (imageNumber (imageIn (a .command))) (sizeOf (Resume i))
+effectOf (Resume i) v a = resume i (based (imageLine (imageIn (a .command)))) (imageFrom (imageIn (a .command))) (sizeOf (Resume i))
 effectOf (Close i) v a = put i idle (sizeOf (Close i))
 effectOf (Change i k p) v a = change i p (streamOf (cipherFor (operandsOf (Change i k p)) v) (keyField (operandsOf (Change i k p)) a) (ivField (operandsOf (Change i k p)) a)) (sizeOf (Change i k p))
 effectOf (Load i c k) v a = put i (loadedLine (numberOf c) (keyFor (numberOf c) (keyField (operandsOf (Load i c k)) a))) (sizeOf (Load i c k))
@@ -393,8 +401,8 @@ refusals o v f =
     ∷ (17 when both (among (4 ∷ 7 ∷ []) (o .kind)) (waits v (o .line)))
     -- a change below the line's position or above 2^36
     ∷ (18 when both (eqb (o .kind) 7) (either (ltb (o .position) (viewAt v (o .line) .pos)) (ltb limit (o .position))))
-    -- no park is left
-    ∷ (15 when both (eqb (o .kind) 4) (noMore (v .parks)))
+    -- no park from its line is left
+    ∷ (15 when both (eqb (o .kind) 4) (noMore (v .parks) (o .line)))
     -- tray length not a multiple of 32, or over 8,192
     ∷ (9 when both (fromTray o) (not (trayOk (f .trayCount))))
     -- key number not in it
@@ -403,10 +411,10 @@ refusals o v f =
     ∷ (7 when both (among (1 ∷ 2 ∷ 7 ∷ 8 ∷ 9 ∷ []) (o .kind)) (f .spare))
     -- key all zero
     ∷ (16 when both (takesKey o) (f .blank))
-    -- image: cipher, n, padding, ZUC cell, Rabbit carry
-    ∷ (8 when both (eqb (o .kind) 5) (not (imageOk (imageLine (f .image)))))
-    -- park number not held
-    ∷ (14 when both (eqb (o .kind) 5) (not (holds (v .parks) (imageNumber (f .image)))))
+    -- image: cipher, n, padding, ZUC cell, Rabbit carry, parking line
+    ∷ (8 when both (eqb (o .kind) 5) (not (both (imageOk (imageLine (f .image))) (fromOk (f .image)))))
+    -- park number not held of the parking line
+    ∷ (14 when both (eqb (o .kind) 5) (not (holds (v .parks) (imageFrom (f .image)) (imageNumber (f .image)))))
     -- the position after it, in the stream that the line is in then, over 2^36
     ∷ (13 when both (crypts o) (ltb limit (positionOn (viewAt v (o .line) .pos) (viewAt v (o .line) .due) (o .count))))
     -- data shorter than count
@@ -444,8 +452,8 @@ perform m text (put i l size) = record { machine = withLine m i l; outcome = ans
 perform m text (crypt i n size) =
     record { machine = withLine m i (moved (lineAt m i) n); outcome = answer 0 size n (enciphered (lineAt m i) (take n text)) }
 perform m text (park i size) =
-    record { machine = withParks (withLine m i idle) (parked (m .parks) i); outcome = answer 0 size 0 (imageOf (numberNow (m .parks)) (shown (lineAt m i))) }
-perform m text (resume i l k size) = record { machine = withParks (withLine m i l) (taken (m .parks) k); outcome = answer 0 size 0 [] }
+    record { machine = withParks (withLine m i idle) (parked (m .parks) i); outcome = answer 0 size 0 (imageOf i (numberNow (m .parks) i) (shown (lineAt m i))) }
+perform m text (resume i l j size) = record { machine = withParks (withLine m i l) (taken (m .parks) j); outcome = answer 0 size 0 [] }
 perform m text (change i p s size) = record { machine = withLine m i (changed (lineAt m i) p s); outcome = answer 0 size 0 [] }
 perform m text (start i iv size) = record { machine = withLine m i (startedLine (lineAt m i) iv); outcome = answer 0 size 0 [] }
 

@@ -129,9 +129,9 @@ accepted : {m m' : Machine} (size n : ℕ) {o o' : List ℕ} → public m ≡ pu
     (record { machine = m'; outcome = record { code = 0; used-command = size; used-data = n; output = o' } })
 accepted size n e w = record { public-is = e; code = refl; used-command = refl; used-data = refl; written = w }
 
-image-length : (k : ℕ) (l : Line) → length (imageOf k l) ≡ imageLength
+image-length : (i k : ℕ) (l : Line) → length (imageOf i k l) ≡ imageLength
 unfolding imageOf
-image-length k l = refl
+image-length i k l = refl
 
 module _ (m m' : Machine) (same : public m ≡ public m') where
   put-same : (i : ℕ) (l l' : MLine) → viewOf l ≡ viewOf l' → public (withLine m i l) ≡ public (withLine m' i l')
@@ -153,7 +153,7 @@ module _ (m m' : Machine) (same : public m ≡ public m') where
       ∙ sym (enciphered-length (lineAt m' i) (take n text')))
   same-perform text text' (park i size) _ same-park =
       accepted size 0 (ap (λ (v : Public). record { lines = v .lines; parks = parked (v .parks) i }) (put-same i idle idle refl))
-      (image-length _ (shown (lineAt m i)) ∙ sym (image-length _ (shown (lineAt m' i))))
+      (image-length i _ (shown (lineAt m i)) ∙ sym (image-length i _ (shown (lineAt m' i))))
   same-perform text text' (change i p s size) (change _ _ s' _) same-change =
       accepted size 0 (put-same i _ _ (view-changed (lineAt m i) p s ∙ ap (λ (w : View). changedView w p) (view-same i) ∙ sym (view-changed (lineAt m' i) p s'))) refl
   same-perform text text' (start i iv size) (start _ iv' _) same-start =

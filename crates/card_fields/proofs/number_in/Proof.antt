@@ -1,4 +1,4 @@
--- `card_fields::number_in` meets its contract: it is the word behind the position.
+-- `card_fields::number_in` meets its contract: it is the word behind the line that parked.
 -- Assumes nothing.
 use mathlib.Core.Path.{sym, _∙_}
 use Rattle.machine.proofs.Fields.{image-number}

@@ -15,7 +15,7 @@ use Rattle.card_fields.proofs.words_in.Statement.{statement}
 use Rattle.card_fields.proofs.words_in.Tie as tie
 
 abbrev Inv-loop : tie.InvT-loop
-Inv-loop s w₀ i₀ w i = (i ≤ 38) × (w ≡ tab i (λ k. wordAt s (13 + 4 * k)) ++ drop i w₀)
+Inv-loop s w₀ i₀ w i = (i ≤ 38) × (w ≡ tab i (λ k. wordAt s (14 + 4 * k)) ++ drop i w₀)
 
 abbrev μ-loop : tie.MeasureT-loop
 μ-loop s w₀ i₀ w i = 38 - i
@@ -25,7 +25,7 @@ loop-again c =
     let p = c .before .before in
     let s = now (p .before .before .args .s) in (
       search needs,
-      rw (c .word-at .ensures, p .loop .inv .1) (fill (p .loop .i) (λ k. wordAt s (13 + 4 * k)) (replicate 38 0) (search needs)),
+      rw (c .word-at .ensures, p .loop .inv .1) (fill (p .loop .i) (λ k. wordAt s (14 + 4 * k)) (replicate 38 0) (search needs)),
     )
 
 pub words-in-spec : {M : Type 1} → statement M

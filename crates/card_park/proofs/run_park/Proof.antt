@@ -15,7 +15,7 @@ use Rattle.command.specs.Rows.{Row, unless, codeOf}
 use Rattle.command.proofs.Rows.{AllPassed, code-passed}
 use Rattle.card_rows.specs.Rows.{parkRows}
 use Rattle.machine.specs.Machine.{Line, Effect, refuseIf, imageOf, idleLine}
-use Rattle.machine.specs.Parks.{lastPark, noMore, numberNow, parked}
+use Rattle.machine.specs.Parks.{Parks, lastPark, noMore, numberNow, parked}
 use Rattle.machine.specs.Calls.{lineOn}
 use Rattle.card_layout.specs.Words.{cardIn, putParks}
 use Rattle.card_line.proofs.Lines.{idle-plain}
@@ -60,7 +60,7 @@ abbrev rows : tie.After-due-at → List Row
 rows d = parkRows (line d .mode) (line d .due)
 
 abbrev parks : tie.After-due-at → Effect
-parks d = let a = start d .args in parkWith (a .i) (noMore (publicOf (a .card .now) .parks)) (length (a .out .now))
+parks d = let a = start d .args in parkWith (a .i) (noMore (publicOf (a .card .now) .parks) (a .i)) (length (a .out .now))
 
 by-rows : (d : tie.After-due-at) (command tray text : List ℕ) {r : Outcome} {ws' o : List ℕ} → let a = start d .args in
     EffectLeaves (a .card .now) text (a .out .now) (unless refuseIf (rows d) (parks d)) r ws' o →
@@ -90,8 +90,8 @@ judged e = let k = e .before in code-passed (rows (k .before)) tt (sym (code-is 
 
 -- ---- once the parks are counted
 
-full : (p : tie.After-park-count) (b : Bool) → leb lastPark (p .park-count .result) ≡ b → noMore (publicOf (start (seen p) .args .card .now) .parks) ≡ b
-full p = full-is (start (seen p) .args .card .now) (p .park-count .ensures)
+full : (p : tie.After-park-count) (b : Bool) → leb lastPark (p .park-count .result) ≡ b → let a = start (seen p) .args in noMore (publicOf (a .card .now) .parks) (a .i) ≡ b
+full p = let a = start (seen p) .args in full-is (a .card .now) (a .i) (p .park-count .ensures)
 
 returns-2 : tie.Need-returns-2
 returns-2 c =
@@ -124,7 +124,7 @@ abbrev first : tie.Else3 → tie.Start
 first e = start (seen (counted e))
 
 -- the number of the park
-number : (e : tie.Else3) → counted e .park-count .result + 1 ≡ numberNow (cardIn (first e .args .card .now) .parks)
+number : (e : tie.Else3) → let a = first e .args in counted e .park-count .result + 1 ≡ numberNow (cardIn (a .card .now) .parks) (a .i)
 unfolding numberNow
 number e = add-one (counted e .park-count .result) ∙ ap suc (counted e .park-count .ensures)
 
@@ -132,7 +132,7 @@ put-requires : tie.Need-put-requires
 put-requires c κs =
     let e = c .before .before .before in
     let s = first e in
-    (part-held (s .args .card .now) (s .args .i) (s .pre .1) (s .pre .0 .size) (s .pre .0 .held), e .if3 .left)
+    ((part-held (s .args .card .now) (s .args .i) (s .pre .1) (s .pre .0 .size) (s .pre .0 .held), s .pre .1), e .if3 .left)
 
 -- ---- once the line is idle
 
@@ -142,7 +142,7 @@ put-parked-requires c κs =
     let e = long l in
     let s = first e in
     let n = ap (λ (x : List ℕ). cardIn x .parks) (l .clear-line .ensures) ∙ put-parks (s .args .card .now) _ idleLine (search needs) (s .pre .0) idle-plain in
-    (search needs, number e ∙ ap numberNow (sym n))
+    (search needs, number e ∙ ap (λ (x : Parks). numberNow x (s .args .i)) (sym n))
 
 returns-4 : tie.Need-returns-4
 returns-4 c =
@@ -157,8 +157,8 @@ returns-4 c =
     let o = s .args .out .now in
     let q = number e in
     let i = line-part w (s .args .i) (s .pre .1) (s .pre .0 .size) in
-    let n = ap₂ (λ (j : ℕ) (x : Line). length (imageOf j x)) (sym q) (sym i) ∙ k .put .ensures .0 in
-    let v = k .put .ensures .1 ∙ ap₂ (λ (j : ℕ) (x : Line). imageOf j x ++ drop imageLength o) q i in
+    let n = ap₂ (λ (j : ℕ) (x : Line). length (imageOf (s .args .i) j x)) (sym q) (sym i) ∙ k .put .ensures .0 in
+    let v = k .put .ensures .1 ∙ ap₂ (λ (j : ℕ) (x : Line). imageOf (s .args .i) j x ++ drop imageLength o) q i in
     let ws = z .put-parked .ensures ∙ ap (λ (x : List ℕ). putParks x (parked (cardIn x .parks) (s .args .i))) (l .clear-line .ensures) in
     λ m y t. by-rows d m y t
     (given-passed w t o (rows d) (parks d) (judged (passed p))

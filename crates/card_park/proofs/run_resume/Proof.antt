@@ -5,11 +5,12 @@ use mathlib.Core.Bool.{Bool, true, false, not}
 use mathlib.Core.List.{List}
 use Prim.Native.Nat.{ℕ}
 use native.Mathlib.Omega.{arith}
-use lib.Dec.{eqb}
-use borrow.Author.Tests.{eq-eqb, ne-eqb, not-true, not-false}
-use Rattle.card_sizes.specs.Sizes.{resumeLength}
+use lib.Dec.{eqb, ltb}
+use borrow.Author.Tests.{eq-eqb, ne-eqb, lt-ltb, le-ltb, not-true, not-false}
+use Rattle.card_sizes.specs.Sizes.{lineCount, resumeLength}
+use Rattle.words.specs.Tests.{both}
 use Rattle.command.specs.Decode.{lengthOf}
-use Rattle.machine.specs.Machine.{decided, refuseIf, plainLine, imageLine, imageNumber, imageIn, imageOk, isIdle}
+use Rattle.machine.specs.Machine.{decided, refuseIf, plainLine, imageLine, imageFrom, imageNumber, imageIn, imageOk, fromOk, isIdle}
 use Rattle.machine.specs.Parks.{holds, taken}
 use Rattle.machine.proofs.Lines.{shown-based}
 use Rattle.card_layout.specs.Words.{cardIn, putLine, putParks}
@@ -51,82 +52,111 @@ image p = imageIn (start (idle p .before) .args .command .now)
 is-image : (p : tie.After-words-in) → plainLine 1 (p .before .before .cipher-in .result) (p .before .position-in .result) (p .words-in .result) ≡ imageLine (image p)
 is-image p = image-is (image p) (p .before .before .cipher-in .ensures) (p .before .position-in .ensures) (p .words-in .ensures)
 
--- ---- once its number is looked for
+-- ---- once it is judged
 
-abbrev judged : tie.After-is-held → tie.After-open-with
-judged h = h .before .before
+abbrev numbered : tie.After-open-with → tie.After-number-in
+numbered j = j .before .before
 
-abbrev numbered : tie.After-is-held → tie.After-number-in
-numbered h = judged h .before .before
+abbrev lined : tie.After-open-with → tie.After-from-in
+lined j = numbered j .before
 
-abbrev brought : tie.After-is-held → tie.After-words-in
-brought h = numbered h .before
+abbrev brought : tie.After-open-with → tie.After-words-in
+brought j = lined j .before
 
-abbrev words : tie.After-is-held → List ℕ
-words h = start (idle (brought h) .before) .args .card .now
+abbrev begin : tie.After-open-with → tie.Start
+begin j = start (idle (brought j) .before)
 
-not-busy : (h : tie.After-is-held) → not (isIdle (publicOf (words h)) (start (idle (brought h) .before) .args .i)) ≡ false
-not-busy h = let e = idle (brought h) in busy (e .before) true (eq-eqb _ _ (e .if1 .left))
+abbrev words : tie.After-open-with → List ℕ
+words j = begin j .args .card .now
 
-good : (h : tie.After-is-held) (b : Bool) → judged h .open-with .result ≡ b → imageOk (imageLine (image (brought h))) ≡ b
-good h b e = sym (ap imageOk (is-image (brought h))) ∙ sym (judged h .open-with .ensures) ∙ e
+not-busy : (j : tie.After-open-with) → not (isIdle (publicOf (words j)) (begin j .args .i)) ≡ false
+not-busy j = let e = idle (brought j) in busy (e .before) true (eq-eqb _ _ (e .if1 .left))
 
-is-held : (h : tie.After-is-held) (b : Bool) → h .is-held .result ≡ b → not (holds (publicOf (words h) .parks) (imageNumber (image (brought h)))) ≡ not b
-is-held h b e =
-    ap not (held-by (words h) (imageNumber (image (brought h))) ∙ ap (holds (cardIn (words h) .parks)) (sym (numbered h .number-in .ensures)) ∙ sym (h .is-held .ensures) ∙ e)
+good : (j : tie.After-open-with) (b : Bool) → j .open-with .result ≡ b → imageOk (imageLine (image (brought j))) ≡ b
+good j b e = sym (ap imageOk (is-image (brought j))) ∙ sym (j .open-with .ensures) ∙ e
 
 returns-2 : tie.Need-returns-2
 unfolding decided refuseIf lengthOf
 returns-2 c =
-    let h = c .before .before in
-    let w = words h in
-    λ _ t o. given-false w t o _ _ _ (not-busy h)
-    (given-true w t o _ _ _ (ap not (good h false (not-true _ (c .before .if2 .taken)))) (given-refusal w t o 8 (λ z. omega arith) (c .refused2 .ensures)))
+    let j = c .before .before in
+    let w = words j in
+    λ _ t o. given-false w t o _ _ _ (not-busy j)
+    (given-true w t o _ _ _ (ap (λ (b : Bool). not (both b (fromOk (image (brought j))))) (good j false (not-true _ (c .before .if2 .taken)))) (given-refusal w t o 8 (λ z. omega arith) (c .refused2 .ensures)))
 
-abbrev looked : tie.Else2 → tie.After-is-held
-looked f = f .before
+whole : (f : tie.Else2) → imageOk (imageLine (image (brought (f .before)))) ≡ true
+whole f = good (f .before) true (not-false _ (f .if2 .left))
 
-whole : (f : tie.Else2) → imageOk (imageLine (image (brought (looked f)))) ≡ true
-whole f = good (looked f) true (not-false _ (f .if2 .left))
+-- by the line that parked it
+by-from : (f : tie.Else2) (b : Bool) → ltb (lined (f .before) .from-in .result) lineCount ≡ b → let img = image (brought (f .before)) in both (imageOk (imageLine img)) (fromOk img) ≡ b
+by-from f b e = rw (whole f) (ap (λ (x : ℕ). ltb x lineCount) (sym (lined (f .before) .from-in .ensures)) ∙ e)
 
 returns-3 : tie.Need-returns-3
 unfolding decided refuseIf lengthOf
 returns-3 c =
     let f = c .before .before in
-    let h = looked f in
-    let w = words h in
-    λ _ t o. given-false w t o _ _ _ (not-busy h)
-    (given-false w t o _ _ _ (ap not (whole f))
-    (given-true w t o _ _ _ (is-held h false (not-true _ (c .before .if3 .taken))) (given-refusal w t o 14 (λ z. omega arith) (c .refused3 .ensures))))
+    let j = f .before in
+    let w = words j in
+    λ _ t o. given-false w t o _ _ _ (not-busy j)
+    (given-true w t o _ _ _ (ap not (by-from f false (le-ltb _ _ (c .before .if3 .taken)))) (given-refusal w t o 8 (λ z. omega arith) (c .refused3 .ensures)))
 
--- ---- once the line is put
+-- ---- once its number is looked for
 
-abbrev held : tie.After-put-line → tie.Else3
-held l = l .before .before .before
+abbrev judged : tie.After-is-held → tie.Else3
+judged h = h .before .before
+
+abbrev looked : tie.After-is-held → tie.After-open-with
+looked h = judged h .before .before
+
+known : (h : tie.After-is-held) → let img = image (brought (looked h)) in not (both (imageOk (imageLine img)) (fromOk img)) ≡ false
+known h = let e = judged h in ap not (by-from (e .before) true (lt-ltb _ _ (e .if3 .left)))
+
+is-held : (h : tie.After-is-held) (b : Bool) → h .is-held .result ≡ b →
+    let j = looked h in not (holds (publicOf (words j) .parks) (imageFrom (image (brought j))) (imageNumber (image (brought j)))) ≡ not b
+is-held h b e =
+    let j = looked h in
+    let img = image (brought j) in
+    ap not
+    (held-by (words j) (imageFrom img) (imageNumber img) ∙ ap₂ (holds (cardIn (words j) .parks)) (sym (lined j .from-in .ensures)) (sym (numbered j .number-in .ensures))
+    ∙ sym (h .is-held .ensures) ∙ e)
 
 returns-4 : tie.Need-returns-4
 unfolding decided refuseIf lengthOf
 returns-4 c =
+    let h = c .before .before in
+    let w = words (looked h) in
+    λ _ t o. given-false w t o _ _ _ (not-busy (looked h))
+    (given-false w t o _ _ _ (known h)
+    (given-true w t o _ _ _ (is-held h false (not-true _ (c .before .if4 .taken))) (given-refusal w t o 14 (λ z. omega arith) (c .refused4 .ensures))))
+
+-- ---- once the line is put
+
+abbrev held : tie.After-put-line → tie.Else4
+held l = l .before .before .before
+
+returns-5 : tie.Need-returns-5
+unfolding decided refuseIf lengthOf
+returns-5 c =
     let z = c .before .before .before in
     let l = after-put-line z in
     let f = held l in
-    let h = looked (f .before) in
-    let ok = whole (f .before) in
-    let p = brought h in
-    let s = start (idle p .before) in
-    let w = words h in
+    let h = f .before in
+    let j = looked h in
+    let ok = whole (judged h .before) in
+    let p = brought j in
+    let s = begin j in
+    let w = words j in
     let ln = imageLine (image p) in
     let put = l .put-line .ensures ∙ ap (putLine w (s .args .i)) (is-image p) in
-    let ws = z .take-up .ensures ∙ ap₂ (λ (x : List ℕ) (k : ℕ). putParks x (taken (cardIn x .parks) k)) put (numbered h .number-in .ensures) in
-    λ _ t o. given-false w t o _ _ _ (not-busy h)
-    (given-false w t o _ _ _ (ap not ok)
-    (given-false w t o _ _ _ (is-held h true (not-false _ (f .if3 .left)))
-    (given-resume w t o (s .pre .0 .0) (s .args .i) (s .pre .0 .1) (imageNumber (image p)) resumeLength _ ln (sym (shown-based ln)) (image-plain (image p) ok) (image-ok (image p) ok) ws (c .accepted .ensures))))
+    let ws = z .take-up .ensures ∙ ap₂ (λ (x : List ℕ) (k : ℕ). putParks x (taken (cardIn x .parks) k)) put (lined j .from-in .ensures) in
+    λ _ t o. given-false w t o _ _ _ (not-busy j)
+    (given-false w t o _ _ _ (known h)
+    (given-false w t o _ _ _ (is-held h true (not-false _ (f .if4 .left)))
+    (given-resume w t o (s .pre .0 .0) (s .args .i) (s .pre .0 .1) (imageFrom (image p)) resumeLength _ ln (sym (shown-based ln)) (image-plain (image p) ok) (image-ok (image p) ok) ws (c .accepted .ensures))))
 
 pub run-resume-spec : {M : Type 1} → statement M
 run-resume-spec =
     tie.close
     (tie.spec (λ c κs. search needs) (λ c κs. search needs) (λ c. search needs) returns (λ c. search needs) (λ c. search needs) (λ c. search needs)
-    (λ c κs. search needs) (λ c κs. search needs) (λ c κs. search needs) (λ c κs. search needs) (λ c. search needs) (λ c κs. search needs) (λ c κs. search needs)
-    (λ c κs. search needs) (λ c. search needs) returns-2 (λ c κs. search needs) (λ c. search needs) returns-3
-    (λ c. search needs) (λ c κs. search needs) (λ c κs. search needs) (λ c κs. search needs) (λ c. search needs) returns-4)
+    (λ c κs. search needs) (λ c κs. search needs) (λ c κs. search needs) (λ c κs. search needs) (λ c κs. search needs) (λ c. search needs) (λ c κs. search needs)
+    (λ c κs. search needs) (λ c. search needs) returns-2 (λ c. search needs) (λ c κs. search needs) (λ c. search needs) returns-3 (λ c κs. search needs) (λ c κs. search needs) (λ c. search needs) returns-4
+    (λ c. search needs) (λ c κs. search needs) (λ c κs. search needs) (λ c κs. search needs) (λ c. search needs) returns-5)

@@ -10,8 +10,7 @@ slice-write-card-2 : tie.Need-slice-write-card-2
 slice-write-card-2 c = simp length-set (search needs)
 
 returns : tie.Need-returns
-returns c = parked-put (c .args .card .now) (c .pre .0 .0) (c .args .i) (c .args .n) (c .pre .0 .1) (c .pre .1)
+returns c = parked-put (c .args .card .now) (c .args .i) (c .args .n) (c .pre .0 .1) (c .pre .1)
 
 pub put-parked-spec : {M : Type 1} → statement M
-put-parked-spec =
-    tie.close (tie.spec (search needs) (search needs) (search needs) slice-write-card-2 (search needs) returns)
+put-parked-spec = tie.close (tie.spec (search needs) (search needs) (search needs) (search needs) (search needs) slice-write-card-2 (search needs) returns)
