@@ -23,7 +23,8 @@ abbrev μ-loop : tie.MeasureT-loop
 returns : tie.Need-returns Inv-loop μ-loop
 unfolding parksOk
 returns c =
-    let p = c .before .before .before .before in
+    let k = c .before .before in
+    let p = k .before .before in
     let ws = p .before .args .card .now in
     let i = p .loop .i in
     let h = held-is ws i in
@@ -33,7 +34,8 @@ returns c =
 
 loop-again : tie.Need-loop-again Inv-loop μ-loop
 loop-again c =
-    let p = c .before .before .before .before in
+    let k = c .before .before in
+    let p = k .before .before in
     let ws = p .before .args .card .now in
     let i = p .loop .i in
     let h = held-is ws i in
