@@ -1,0 +1,387 @@
+-- No two bytes that are noted are the same. The bytes to come for open lines and for parks that are held are all different, none of them was used, and their streams were begun: a crypt uses the first of
+-- its line's, a park and a resume take them from place to place, and the bytes of a stream that begins are new, since no stream was begun with its cipher, key and IV.
+-- Assumes nothing.
+use Prim.Native.Nat.{ℕ, zero, suc, _+_, _-_, _<_, _≤_}
+use mathlib.Core.Path.{_≡_, refl, ap, sym, _∙_, subst}
+use mathlib.Core.Bool.{Bool, true, false}
+use mathlib.Core.List.{List, [], _∷_, _++_}
+use native.Mathlib.Omega.{arith}
+use native.Mathlib.Decide.{decLt, ℕ-discrete}
+use lib.Dec.{eqb, ltb}
+use lib.ListN.{length, getD, take, set, List·getD-eq-default}
+use lib.Seq.{getD-set-same, getD-set-other, set-out}
+use borrow.Author.Tests.{eqb-true, eqb-false, eq-eqb, ne-eqb, ltb-false}
+use Rattle.words.specs.Tests.{pick}
+use Rattle.machine.specs.Machine.{MLine, Machine, lineAt, withLine, withParks, idle, opened, loadedLine, startedLine, imageFrom, imageNumber, Call, Effect, refuse, put, crypt, park, resume, change, start, perform}
+use Rattle.machine.specs.Parks.{Parks, heldFor, parked, holds, taken}
+use Rattle.lists.specs.Logs.{Did, did-nothing, did-open, did-crypt, did-park, did-resume, did-close, did-change, did-load, did-start}
+use Rattle.machine.proofs.Parks.{holds-told, taken-spent, parked-other, taken-other}
+use Rattle.machine.proofs.Simulation.{GoodCard, Fair, fair-refuse, fair-put, fair-crypt, fair-park, fair-resume, fair-change, fair-start}
+use Rattle.lists.proofs.Explained.{Names, Explained, was-refused, was-open, was-crypt, was-park, was-resume, was-close, was-change, was-load, was-start}
+use Rattle.uses.specs.Uses.{Origin, KeyByte, bytesFrom, changedAt, firstOf, Notes, changeOrigin, startOrigin, forLine, begins, noteCall, In, in-head, NoneTwice}
+use Rattle.uses.proofs.Twice.{Either, in-first, in-second, either-in, first-in, second-in, only, parts-apart, none-twice, nth-of, first-once}
+
+-- ---- places
+
+-- where bytes are to come: on an open line, and of a line whose park is held
+pub data Place : Type 0 where
+  here : ℕ → Place
+  held : ℕ → Place
+
+abbrev pub Live : Machine → Place → Type 0
+Live m (here i) = lineAt m i .mode ≡ 1
+Live m (held i) = heldFor (m .parks) i ≡ 0 → ⊥
+
+abbrev bytesIn : (coming parked : ℕ → ℕ → KeyByte) → Place → ℕ → KeyByte
+bytesIn coming parked (here i) = coming i
+bytesIn coming parked (held i) = parked i
+
+abbrev pub bytesAt : Notes → Place → ℕ → KeyByte
+bytesAt t = bytesIn (t .coming) (t .parked)
+
+abbrev lineOfPlace : Place → ℕ
+lineOfPlace (here i) = i
+lineOfPlace (held i) = i
+
+abbrev kindOf : Place → ℕ
+kindOf (here i) = 0
+kindOf (held i) = 1
+
+here-held : (i j : ℕ) → here i ≡ held j → ⊥
+here-held i j e = let z : _≡_ {A = ℕ} 0 1 = ap kindOf e in omega (arith, z)
+
+is-here : (j : ℕ) (p : Place) → Dec (p ≡ here j)
+is-here j (here i) = by (ℕ-discrete i j)
+  where
+    by : Dec (i ≡ j) → Dec (here i ≡ here j)
+    by (yes e) = yes (ap here e)
+    by (no n) = no (λ e. n (ap lineOfPlace e))
+is-here j (held i) = no (λ e. here-held j i (sym e))
+
+-- ---- all bytes to come are different
+
+pub record Apart (live : Place → Type 0) (b : Place → ℕ → KeyByte) (os : List Origin) (us : List KeyByte) : Type 0 where
+  pub apart : (p q : Place) → live p → live q → (k l : ℕ) → b p k ≡ b q l → (p ≡ q) × (k ≡ l)
+  pub unused : (p : Place) → live p → (k : ℕ) → In (b p k) us → ⊥
+  pub begun : (p : Place) → live p → (k : ℕ) → In (b p k .origin) os
+  pub origins : (u : KeyByte) → In u us → In (u .origin) os
+  pub once : NoneTwice us
+
+-- bytes that go from place to place
+module _ {live live' : Place → Type 0} {b b' : Place → ℕ → KeyByte} {os : List Origin} {us : List KeyByte} (from : Place → Place)
+    (was : (p : Place) → live' p → live (from p)) (is : (p : Place) → live' p → (k : ℕ) → b' p k ≡ b (from p) k) (one : (p q : Place) → live' p → live' q → from p ≡ from q → p ≡ q) where
+  moved-apart : Apart live b os us → Apart live' b' os us
+  moved-apart w =
+      record {
+        apart = λ p q a c k l e. let z = w .apart (from p) (from q) (was p a) (was q c) k l (sym (is p a k) ∙ e ∙ is q c l) in (one p q a c (z .0), z .1);
+        unused = λ p a k i. w .unused (from p) (was p a) k (subst (λ (x : KeyByte). In x us) (is p a k) i);
+        begun = λ p a k. subst (λ (x : KeyByte). In (x .origin) os) (sym (is p a k)) (w .begun (from p) (was p a) k);
+        origins = w .origins;
+        once = w .once;
+      }
+
+-- the first n bytes of line j that are used
+module _ {live live' : Place → Type 0} {b b' : Place → ℕ → KeyByte} {os : List Origin} {us : List KeyByte} (j n : ℕ) (up : live (here j)) (on : Place → ℕ) (far : on (here j) ≡ n)
+    (was : (p : Place) → live' p → live p) (is : (p : Place) → live' p → (k : ℕ) → b' p k ≡ b p (on p + k)) (w : Apart live b os us) where
+  used-apart : Apart live' b' os (us ++ firstOf n (b (here j)))
+  used-apart =
+      record {
+        apart =
+            λ p q a c k l e.
+            let z = w .apart p q (was p a) (was q c) (on p + k) (on q + l) (sym (is p a k) ∙ e ∙ is q c l) in
+            let y = ap on (z .0) in
+            let x = z .1 in
+            (z .0, omega (arith, x, y));
+        unused = λ p a k i. unused p a k (either-in us _ (subst (λ (x : KeyByte). In x (us ++ firstOf n (b (here j)))) (is p a k) i));
+        begun = λ p a k. subst (λ (x : KeyByte). In (x .origin) os) (sym (is p a k)) (w .begun p (was p a) (on p + k));
+        origins = λ u i. origins u (either-in us _ i);
+        once =
+            none-twice us (firstOf n (b (here j))) (w .once) (first-once n (b (here j)) (λ k l e. w .apart (here j) (here j) up up k l e .1))
+            (λ x i i'. let h = nth-of n (b (here j)) x i' in w .unused (here j) up (h .number) (subst (λ (y : KeyByte). In y us) (h .is) i));
+      }
+    where
+      unused : (p : Place) → live' p → (k : ℕ) → Either (b p (on p + k)) us (firstOf n (b (here j))) → ⊥
+      unused p a k (in-first i) = w .unused p (was p a) (on p + k) i
+      unused p a k (in-second i) =
+          let h = nth-of n (b (here j)) (b p (on p + k)) i in
+          let z = w .apart p (here j) (was p a) up (on p + k) (h .number) (h .is) in
+          let y = ap on (z .0) in
+          let x = z .1 in
+          let q = h .below in
+          omega (arith, x, y, q, far)
+
+      origins : (u : KeyByte) → Either u us (firstOf n (b (here j))) → In (u .origin) os
+      origins u (in-first i) = w .origins u i
+      origins u (in-second i) =
+          let h = nth-of n (b (here j)) u i in
+          subst (λ (x : KeyByte). In (x .origin) os) (sym (h .is)) (w .begun (here j) up (h .number))
+
+-- a stream that begins on line j, d bytes on
+data Kind (old : ℕ → KeyByte) (up : Type 0) (new : ℕ → KeyByte) (o : Origin) (d k : ℕ) : Type 0 where
+  stays : up → new k ≡ old k → Kind old up new o d k
+  is-new : (n : ℕ) → n + d ≡ k → new k ≡ bytesFrom o n → Kind old up new o d k
+
+module _ {live live' : Place → Type 0} {b b' : Place → ℕ → KeyByte} {os : List Origin} {us : List KeyByte} (j d : ℕ) (o : Origin) (fresh : In o os → ⊥)
+    (was : (p : Place) → live' p → (p ≡ here j → ⊥) → live p) (is : (p : Place) → (p ≡ here j → ⊥) → (k : ℕ) → b' p k ≡ b p k)
+    (kind : (k : ℕ) → Kind (b (here j)) (live (here j)) (b' (here j)) o d k) (w : Apart live b os us) where
+  new-old : (q : Place) → live q → (l n : ℕ) → b q l ≡ bytesFrom o n → ⊥
+  new-old q a l n e = fresh (subst (λ (x : KeyByte). In (x .origin) os) e (w .begun q a l))
+
+  -- a byte of the line, and one of another place
+  other : (q : Place) → live' q → (q ≡ here j → ⊥) → (k l : ℕ) → Kind (b (here j)) (live (here j)) (b' (here j)) o d k → b' (here j) k ≡ b' q l → ⊥
+  other q a ne k l (stays up e) z = ne (sym (w .apart (here j) q up (was q a ne) k l (sym e ∙ z ∙ is q ne l) .0))
+  other q a ne k l (is-new n _ e) z = new-old q (was q a ne) l n (sym (is q ne l) ∙ sym z ∙ e)
+
+  same : (k l : ℕ) → Kind (b (here j)) (live (here j)) (b' (here j)) o d k → Kind (b (here j)) (live (here j)) (b' (here j)) o d l → b' (here j) k ≡ b' (here j) l → k ≡ l
+  same k l (stays up e) (stays _ e') z = w .apart (here j) (here j) up up k l (sym e ∙ z ∙ e') .1
+  same k l (stays up e) (is-new n _ e') z = absurd (new-old (here j) up k n (sym e ∙ z ∙ e'))
+  same k l (is-new n _ e) (stays up e') z = absurd (new-old (here j) up l n (sym e' ∙ sym z ∙ e))
+  same k l (is-new n f e) (is-new n' f' e') z = let y : n ≡ n' = ap (λ (x : KeyByte). x .position) (sym e ∙ z ∙ e') in omega (arith, y, f, f')
+
+  all-apart : (p q : Place) → live' p → live' q → (k l : ℕ) → b' p k ≡ b' q l → Dec (p ≡ here j) → Dec (q ≡ here j) → (p ≡ q) × (k ≡ l)
+  all-apart p q a c k l z (yes x) (yes y) =
+      (x ∙ sym y, same k l (kind k) (kind l) (ap (λ (r : Place). b' r k) (sym x) ∙ z ∙ ap (λ (r : Place). b' r l) y))
+  all-apart p q a c k l z (yes x) (no y) = absurd (other q c y k l (kind k) (ap (λ (r : Place). b' r k) (sym x) ∙ z))
+  all-apart p q a c k l z (no x) (yes y) = absurd (other p a x l k (kind l) (ap (λ (r : Place). b' r l) (sym y) ∙ sym z))
+  all-apart p q a c k l z (no x) (no y) = w .apart p q (was p a x) (was q c y) k l (sym (is p x k) ∙ z ∙ is q y l)
+
+  unused-here : (k : ℕ) → Kind (b (here j)) (live (here j)) (b' (here j)) o d k → In (b' (here j) k) us → ⊥
+  unused-here k (stays up e) i = w .unused (here j) up k (subst (λ (x : KeyByte). In x us) e i)
+  unused-here k (is-new n _ e) i = fresh (subst (λ (x : KeyByte). In (x .origin) os) e (w .origins (b' (here j) k) i))
+
+  unused-at : (p : Place) → live' p → (k : ℕ) → In (b' p k) us → Dec (p ≡ here j) → ⊥
+  unused-at p a k i (yes x) = unused-here k (kind k) (subst (λ (r : Place). In (b' r k) us) x i)
+  unused-at p a k i (no x) = w .unused p (was p a x) k (subst (λ (y : KeyByte). In y us) (is p x k) i)
+
+  begun-here : (k : ℕ) → Kind (b (here j)) (live (here j)) (b' (here j)) o d k → In (b' (here j) k .origin) (os ++ (o ∷ []))
+  begun-here k (stays up e) = subst (λ (x : KeyByte). In (x .origin) (os ++ (o ∷ []))) (sym e) (first-in (o ∷ []) (w .begun (here j) up k))
+  begun-here k (is-new n _ e) = subst (λ (x : KeyByte). In (x .origin) (os ++ (o ∷ []))) (sym e) (second-in os in-head)
+
+  begun-at : (p : Place) → live' p → (k : ℕ) → Dec (p ≡ here j) → In (b' p k .origin) (os ++ (o ∷ []))
+  begun-at p a k (yes x) = subst (λ (r : Place). In (b' r k .origin) (os ++ (o ∷ []))) (sym x) (begun-here k (kind k))
+  begun-at p a k (no x) = subst (λ (y : KeyByte). In (y .origin) (os ++ (o ∷ []))) (sym (is p x k)) (first-in (o ∷ []) (w .begun p (was p a x) k))
+
+  begun-apart : Apart live' b' (os ++ (o ∷ [])) us
+  begun-apart =
+      record {
+        apart = λ p q a c k l z. all-apart p q a c k l z (is-here j p) (is-here j q);
+        unused = λ p a k i. unused-at p a k i (is-here j p);
+        begun = λ p a k. begun-at p a k (is-here j p);
+        origins = λ u i. first-in (o ∷ []) (w .origins u i);
+        once = w .once;
+      }
+
+-- ---- a call
+
+abbrev pub ApartAt : Machine → Notes → Type 0
+ApartAt m t = Apart (Live m) (bytesAt t) (t .begun) (t .used)
+
+-- a line that is not set
+pub other-line : (ls : List MLine) (j i : ℕ) (l : MLine) → eqb j i ≡ false → getD (set ls j l) i idle ≡ getD ls i idle
+other-line ls j i l e = getD-set-other ls j i l idle (λ z. eqb-false j i e (sym z))
+
+-- and what is noted of it
+pub other-note : {A : Type 0} (f : ℕ → A) (j i : ℕ) (x : A) → eqb j i ≡ false → forLine j x f i ≡ f i
+other-note f j i x e = ap (λ (b : Bool). pick b x (f i)) e
+
+-- a number that is taken up is not held
+pub taken-none : (p : Parks) (i : ℕ) → heldFor (taken p i) i ≡ 0
+unfolding taken
+taken-none p i = by (decLt i (length (p .held)))
+  where
+    by : Dec (i < length (p .held)) → getD (set (p .held) i 0) i 0 ≡ 0
+    by (yes q) = getD-set-same (p .held) i 0 0 q
+    by (no q) = ap (λ (l : List ℕ). getD l i 0) (set-out (p .held) i 0 (omega (arith, q))) ∙ List·getD-eq-default (p .held) 0 (omega (arith, q))
+
+module _ (m : Machine) (eight : length (m .lines) ≡ 8) (good : GoodCard m) (a : Call) (t : Notes) (w : ApartAt m t) where
+  -- line j is set to l, which is not open, and nothing else is done
+  module _ (j : ℕ) (l : MLine) (below : j < 8) (shut : l .mode ≡ 1 → ⊥) where
+    shut-line : (i : ℕ) → getD (set (m .lines) j l) i idle .mode ≡ 1 → (b : Bool) → eqb j i ≡ b → eqb j i ≡ false
+    shut-line i h true e =
+        absurd (shut (sym (ap (λ (x : MLine). x .mode) (ap (λ (k : ℕ). getD (set (m .lines) j l) k idle) (sym (eqb-true j i e)) ∙ getD-set-same (m .lines) j l idle (omega (arith, below, eight)))) ∙ h))
+    shut-line i h false e = e
+
+    still-open : (i : ℕ) → getD (set (m .lines) j l) i idle .mode ≡ 1 → lineAt m i .mode ≡ 1
+    still-open i h = sym (ap (λ (x : MLine). x .mode) (other-line (m .lines) j i l (shut-line i h (eqb j i) refl))) ∙ h
+
+    close-apart : ApartAt (withLine m j l) t
+    close-apart = moved-apart (λ p. p) was (λ p h k. refl) (λ p q h g e. e) w
+      where
+        was : (p : Place) → Live (withLine m j l) p → Live m p
+        was (here i) h = still-open i h
+        was (held i) h = h
+
+  -- a stream that begins on line j
+  begin-apart : (j d : ℕ) (l : MLine) (f : ℕ → KeyByte) (o : Origin) → NoneTwice (t .begun ++ (o ∷ [])) →
+      ((k : ℕ) → Kind (t .coming j) (lineAt m j .mode ≡ 1) f o d k) →
+      Apart (Live (withLine m j l)) (bytesAt (begins t j f o)) (t .begun ++ (o ∷ [])) (t .used)
+  begin-apart j d l f o n kind =
+      begun-apart j d o (λ i. parts-apart (t .begun) (o ∷ []) n i in-head) was is (λ k. subst (λ (g : ℕ → KeyByte). Kind (t .coming j) (lineAt m j .mode ≡ 1) g o d k) (sym (on-its-line j f)) (kind k)) w
+    where
+      apart-line : (i : ℕ) → (here i ≡ here j → ⊥) → eqb j i ≡ false
+      apart-line i ne = ne-eqb j i (λ e. ne (ap here (sym e)))
+
+      was : (p : Place) → Live (withLine m j l) p → (p ≡ here j → ⊥) → Live m p
+      was (here i) h ne = sym (ap (λ (x : MLine). x .mode) (other-line (m .lines) j i l (apart-line i ne))) ∙ h
+      was (held i) h ne = h
+
+      is : (p : Place) → (p ≡ here j → ⊥) → (k : ℕ) → bytesAt (begins t j f o) p k ≡ bytesAt t p k
+      is (here i) ne k = ap (λ (g : ℕ → KeyByte). g k) (other-note (t .coming) j i f (apart-line i ne))
+      is (held i) ne k = refl
+
+      on-its-line : (j : ℕ) (f : ℕ → KeyByte) → forLine j f (t .coming) j ≡ f
+      on-its-line j f = ap (λ (b : Bool). pick b f (t .coming j)) (eq-eqb j j refl)
+
+  -- a crypt
+  crypt-apart : (j : ℕ) (l : MLine) (input output : List ℕ) → lineAt m j .mode ≡ 1 → ApartAt (withLine m j l) (noteCall t (did-crypt j input output))
+  crypt-apart j l input output up = used-apart j (length input) up on (ap (λ (b : Bool). pick b (length input) 0) (eq-eqb j j refl)) was is w
+    where
+      on : Place → ℕ
+      on (here i) = pick (eqb j i) (length input) 0
+      on (held i) = 0
+
+      was : (p : Place) → Live (withLine m j l) p → Live m p
+      was (here i) h = by (eqb j i) refl
+        where
+          by : (b : Bool) → eqb j i ≡ b → lineAt m i .mode ≡ 1
+          by true e = subst (λ (k : ℕ). lineAt m k .mode ≡ 1) (eqb-true j i e) up
+          by false e = sym (ap (λ (x : MLine). x .mode) (other-line (m .lines) j i l e)) ∙ h
+      was (held i) h = h
+
+      is : (p : Place) → Live (withLine m j l) p → (k : ℕ) → bytesAt (noteCall t (did-crypt j input output)) p k ≡ bytesAt t p (on p + k)
+      is (here i) h k = by (eqb j i) refl
+        where
+          by : (b : Bool) → eqb j i ≡ b → pick b (λ k. t .coming j (length input + k)) (t .coming i) k ≡ t .coming i (pick b (length input) 0 + k)
+          by true e = ap (λ (x : ℕ). t .coming x (length input + k)) (eqb-true j i e)
+          by false e = ap (t .coming i) (let z : k ≡ 0 + k = omega arith in z)
+      is (held i) h k = ap (t .parked i) (let z : k ≡ 0 + k = omega arith in z)
+
+  -- a park
+  module _ (j : ℕ) (below : j < 8) (up : lineAt m j .mode ≡ 1) (image : List ℕ) where
+    abbrev parkedNow : Machine
+    parkedNow = withParks (withLine m j idle) (parked (m .parks) j)
+
+    shut : idle .mode ≡ 1 → ⊥
+    shut e = omega (arith, e)
+
+    -- its bytes are those that its line had
+    abbrev parkedFrom : Place → Place
+    parkedFrom (here i) = here i
+    parkedFrom (held i) = pick (eqb j i) (here j) (held i)
+
+    parked-was : (p : Place) → Live parkedNow p → Live m (parkedFrom p)
+    parked-was (here i) h = still-open j idle below shut i h
+    parked-was (held i) h = by (eqb j i) refl
+      where
+        by : (b : Bool) → eqb j i ≡ b → Live m (pick b (here j) (held i))
+        by true e = up
+        by false e = λ z. h (parked-other (m .parks) j i (λ q. eqb-false j i e (sym q)) ∙ z)
+
+    parked-is : (p : Place) → Live parkedNow p → (k : ℕ) → bytesAt (noteCall t (did-park j image)) p k ≡ bytesAt t (parkedFrom p) k
+    parked-is (here i) h k = refl
+    parked-is (held i) h k = by (eqb j i)
+      where
+        by : (b : Bool) → pick b (t .coming j) (t .parked i) k ≡ bytesAt t (pick b (here j) (held i)) k
+        by true = refl
+        by false = refl
+
+    -- the line is not open
+    no-line : (i i' : ℕ) → getD (set (m .lines) j idle) i idle .mode ≡ 1 → (b : Bool) → here i ≡ pick b (here j) (held i') → ⊥
+    no-line i i' h true e = eqb-false j i (shut-line j idle below shut i h (eqb j i) refl) (sym (ap lineOfPlace e))
+    no-line i i' h false e = here-held i i' e
+
+    two-parks : (i i' : ℕ) (b b' : Bool) → eqb j i ≡ b → eqb j i' ≡ b' → pick b (here j) (held i) ≡ pick b' (here j) (held i') → held i ≡ held i'
+    two-parks i i' true true e e' z = ap held (sym (eqb-true j i e) ∙ eqb-true j i' e')
+    two-parks i i' true false e e' z = absurd (here-held j i' z)
+    two-parks i i' false true e e' z = absurd (here-held j i (sym z))
+    two-parks i i' false false e e' z = z
+
+    parked-one : (p q : Place) → Live parkedNow p → Live parkedNow q → parkedFrom p ≡ parkedFrom q → p ≡ q
+    parked-one (here i) (here i') h g e = e
+    parked-one (here i) (held i') h g e = absurd (no-line i i' h (eqb j i') e)
+    parked-one (held i) (here i') h g e = absurd (no-line i' i g (eqb j i) (sym e))
+    parked-one (held i) (held i') h g e = two-parks i i' (eqb j i) (eqb j i') refl refl e
+
+    park-apart : ApartAt parkedNow (noteCall t (did-park j image))
+    park-apart = moved-apart parkedFrom parked-was parked-is parked-one w
+
+  -- a resume that takes up what is held of line f
+  module _ (j : ℕ) (l : MLine) (image : List ℕ) (h : holds (m .parks) (imageFrom image) (imageNumber image) ≡ true) where
+    abbrev f : ℕ
+    f = imageFrom image
+
+    abbrev resumedNow : Machine
+    resumedNow = withParks (withLine m j l) (taken (m .parks) f)
+
+    -- the line's bytes are those that were parked
+    abbrev resumedFrom : Place → Place
+    resumedFrom (here i) = pick (eqb j i) (held f) (here i)
+    resumedFrom (held i) = held i
+
+    was-held : heldFor (m .parks) f ≡ 0 → ⊥
+    was-held z = taken-spent (m .parks) f (imageNumber image) (good .long) (good .parks) h .given .some (sym (holds-told (m .parks) f (imageNumber image) h) ∙ z)
+
+    not-from : (i : ℕ) → (heldFor (taken (m .parks) f) i ≡ 0 → ⊥) → i ≡ f → ⊥
+    not-from i g e = g (ap (heldFor (taken (m .parks) f)) e ∙ taken-none (m .parks) f)
+
+    resumed-was : (p : Place) → Live resumedNow p → Live m (resumedFrom p)
+    resumed-was (here i) g = by (eqb j i) refl
+      where
+        by : (b : Bool) → eqb j i ≡ b → Live m (pick b (held f) (here i))
+        by true e = was-held
+        by false e = sym (ap (λ (x : MLine). x .mode) (other-line (m .lines) j i l e)) ∙ g
+    resumed-was (held i) g = λ z. g (taken-other (m .parks) f i (not-from i g) ∙ z)
+
+    resumed-is : (p : Place) → Live resumedNow p → (k : ℕ) → bytesAt (noteCall t (did-resume j image)) p k ≡ bytesAt t (resumedFrom p) k
+    resumed-is (here i) g k = by (eqb j i)
+      where
+        by : (b : Bool) → pick b (t .parked f) (t .coming i) k ≡ bytesAt t (pick b (held f) (here i)) k
+        by true = refl
+        by false = refl
+    resumed-is (held i) g k = refl
+
+    no-park : (i i' : ℕ) → (heldFor (taken (m .parks) f) i' ≡ 0 → ⊥) → (b : Bool) → pick b (held f) (here i) ≡ held i' → ⊥
+    no-park i i' g true e = not-from i' g (sym (ap lineOfPlace e))
+    no-park i i' g false e = here-held i i' e
+
+    two-lines : (i i' : ℕ) (b b' : Bool) → eqb j i ≡ b → eqb j i' ≡ b' → pick b (held f) (here i) ≡ pick b' (held f) (here i') → here i ≡ here i'
+    two-lines i i' true true e e' z = ap here (sym (eqb-true j i e) ∙ eqb-true j i' e')
+    two-lines i i' true false e e' z = absurd (here-held i' f (sym z))
+    two-lines i i' false true e e' z = absurd (here-held i f z)
+    two-lines i i' false false e e' z = z
+
+    resumed-one : (p q : Place) → Live resumedNow p → Live resumedNow q → resumedFrom p ≡ resumedFrom q → p ≡ q
+    resumed-one (here i) (here i') g k e = two-lines i i' (eqb j i) (eqb j i') refl refl e
+    resumed-one (here i) (held i') g k e = absurd (no-park i i' k (eqb j i) e)
+    resumed-one (held i) (here i') g k e = absurd (no-park i' i g (eqb j i') (sym e))
+    resumed-one (held i) (held i') g k e = e
+
+    resume-apart : ApartAt resumedNow (noteCall t (did-resume j image))
+    resume-apart = moved-apart resumedFrom resumed-was resumed-is resumed-one w
+
+  -- a change, at a number of bytes on
+  change-kind : (j p : ℕ) (o : Origin) → lineAt m j .mode ≡ 1 → (k : ℕ) → Kind (t .coming j) (lineAt m j .mode ≡ 1) (changedAt (t .coming j) p o) o (p - t .coming j 0 .position) k
+  unfolding changedAt
+  change-kind j p o up k = by (ltb k (p - t .coming j 0 .position)) refl
+    where
+      by : (b : Bool) → ltb k (p - t .coming j 0 .position) ≡ b → Kind (t .coming j) (lineAt m j .mode ≡ 1) (changedAt (t .coming j) p o) o (p - t .coming j 0 .position) k
+      by true e = stays up (ap (λ (b : Bool). pick b (t .coming j k) (bytesFrom o (k - (p - t .coming j 0 .position)))) e)
+      by false e =
+          let q = ltb-false k (p - t .coming j 0 .position) e in
+          is-new (k - (p - t .coming j 0 .position)) (omega (arith, q)) (ap (λ (b : Bool). pick b (t .coming j k) (bytesFrom o (k - (p - t .coming j 0 .position)))) e)
+
+  -- an open or a start
+  first-kind : (j : ℕ) (o : Origin) (k : ℕ) → Kind (t .coming j) (lineAt m j .mode ≡ 1) (bytesFrom o) o 0 k
+  first-kind j o k = is-new k (omega arith) refl
+
+  pub call-apart : (e : Effect) (d : Did) → Explained m a e d → Fair m a e → NoneTwice (noteCall t d .begun) → ApartAt (perform m (a .text) e .machine) (noteCall t d)
+  unfolding loadedLine
+  call-apart (refuse k) did-nothing was-refused _ n = w
+  call-apart (put j l size) (did-open _ c key iv) (was-open s) _ n = begin-apart j 0 l _ _ n (first-kind j _)
+  call-apart (crypt j k size) (did-crypt _ input output) (was-crypt s q) (fair-crypt up _ _) n = crypt-apart j _ input output up
+  call-apart (park j size) (did-park _ image) (was-park s up z r) _ n = park-apart j (s .below) up image
+  call-apart (resume j l k size) (did-resume _ image) (was-resume s h) _ n = resume-apart j l image h
+  call-apart (put j l size) (did-close _) (was-close s) _ n = close-apart j l (s .below) (λ z. omega (arith, z))
+  call-apart (put j l size) (did-load _ c key) (was-load s g k) _ n = close-apart j l (s .below) (λ z. omega (arith, z))
+  call-apart (start j iv size) (did-start _ _) (was-start s up) _ n = begin-apart j 0 _ _ _ n (first-kind j _)
+  call-apart (change j p _ size) (did-change _ _ key iv) (was-change s up z le) _ n = begin-apart j _ _ _ _ n (change-kind j p (changeOrigin t j key iv) up)

@@ -1,0 +1,4 @@
+pub mod Twice
+pub mod Apart
+pub mod Follows
+pub mod Once
