@@ -8,10 +8,12 @@ use Rattle.machine.specs.Calls.{Made, madeOf, callsOf, BytesIn, AllBytes}
 use Rattle.lists.specs.OneStream.{OneStream}
 use Rattle.lists.specs.Counted.{Counted}
 use Rattle.lists.specs.Steps.{Steps, none as no-steps, step as one-step}
-use Rattle.lists.specs.Parking.{ParkedCalls}
-use Rattle.lists.proofs.Steps.{steps-bytes, steps-one-stream, steps-counted, steps-parked-calls}
+use Rattle.lists.specs.Parking.{ParkedCalls, SameImages}
+use Rattle.lists.proofs.Steps.{steps-bytes, steps-one-stream, steps-counted, steps-parked-calls, steps-same-images}
 use Rattle.trace.specs.Trace.{traced, AlikeLists, AllShare}
 use Rattle.trace.proofs.Runs.{steps-same-trace, steps-tell-nothing}
+use Rattle.uses.specs.Uses.{Unaltered, FreshKeys, KeystreamOnce}
+use Rattle.uses.proofs.Once.{steps-keystream-once}
 use Rattle.card_layout.proofs.Cards.{fresh-words}
 use Rattle.card_outcome.specs.Outcomes.{outcomeOf, Code}
 use Rattle.card_outcome.specs.Leaves.{outOf, Untouched}
@@ -57,6 +59,15 @@ counted xs h = steps-counted xs (from-fresh h)
 -- In such a list an image that a park wrote is taken up until its line parks again.
 pub parked-calls : (xs : List Made) → Ran fresh xs → ParkedCalls xs
 parked-calls xs h = steps-parked-calls xs (from-fresh h)
+
+-- In any two such lists parks from a line write the same bytes where the line's cipher, position, state and accepted parks before them are the same, whatever else the lists hold.
+pub same-images : (xs ys : List Made) → Ran fresh xs → Ran fresh ys → SameImages xs ys
+same-images xs ys h k = steps-same-images xs ys (from-fresh h) (from-fresh k)
+
+-- In such a list no keystream byte is used twice, where every accepted resume brings an image that a park before it wrote and no two accepted opens, starts and changes were given the same cipher, key
+-- and IV.
+pub keystream-once : (xs : List Made) → Ran fresh xs → Unaltered xs → FreshKeys xs → KeystreamOnce xs
+keystream-once xs h = steps-keystream-once xs (from-fresh h)
 
 -- Two such lists that are alike but for data and for the key and IV bytes that are used leave the same trace: codes, counts, and what is public of the card after each call.
 pub trace-tells-nothing : (xs ys : List Made) → Ran fresh xs → Ran fresh ys → AlikeLists (callsOf xs) (callsOf ys) → map traced xs ≡ map traced ys

@@ -128,7 +128,7 @@ standing-newest g c q = by (g .streams) c q
     by : (ss : List Stream) → Chain ss → newest ss .since ≤ length (g .ins) → placeAt ss (length (g .ins)) ≡ along (newest ss .line) (length (g .ins) - newest ss .since)
     by (s ∷ rest) c q = place-yes s rest (length (g .ins)) q
 
-pub changed-mode : (l : MLine) (p : ℕ) (s : List ℕ) → changed l p s .mode ≡ l .mode
+changed-mode : (l : MLine) (p : ℕ) (s : List ℕ) → changed l p s .mode ≡ l .mode
 unfolding changed renewed
 changed-mode l p s = go (eqb p (l .pos))
   where

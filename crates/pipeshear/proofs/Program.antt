@@ -13,10 +13,12 @@ use Rattle.machine.specs.Calls.{Made, madeOf, callsOf, BytesIn, AllBytes}
 use Rattle.lists.specs.OneStream.{OneStream}
 use Rattle.lists.specs.Counted.{Counted}
 use Rattle.lists.specs.Steps.{Steps, none as no-steps, step as one-step}
-use Rattle.lists.specs.Parking.{ParkedCalls}
-use Rattle.lists.proofs.Steps.{steps-bytes, steps-one-stream, steps-counted, steps-parked-calls}
+use Rattle.lists.specs.Parking.{ParkedCalls, SameImages}
+use Rattle.lists.proofs.Steps.{steps-bytes, steps-one-stream, steps-counted, steps-parked-calls, steps-same-images}
 use Rattle.trace.specs.Trace.{traced, AlikeLists, AllShare}
 use Rattle.trace.proofs.Runs.{steps-same-trace, steps-tell-nothing}
+use Rattle.uses.specs.Uses.{Unaltered, FreshKeys, KeystreamOnce}
+use Rattle.uses.proofs.Once.{steps-keystream-once}
 use Rattle.card_layout.specs.Words.{cardIn}
 use Rattle.card_layout.proofs.Cards.{fresh-words}
 use Rattle.card_outcome.specs.declared.Outcome.{Outcome}
@@ -78,6 +80,15 @@ counted-on xs h = steps-counted xs (from-zeros h)
 
 pub parked-calls-on : (xs : List Made) → RanOn (replicate cardSize 0) xs → ParkedCalls xs
 parked-calls-on xs h = steps-parked-calls xs (from-zeros h)
+
+-- In any two such lists parks from a line write the same bytes where the line's cipher, position, state and accepted parks before them are the same, whatever else the lists hold.
+pub same-images-on : (xs ys : List Made) → RanOn (replicate cardSize 0) xs → RanOn (replicate cardSize 0) ys → SameImages xs ys
+same-images-on xs ys h k = steps-same-images xs ys (from-zeros h) (from-zeros k)
+
+-- In such a list no keystream byte is used twice, where every accepted resume brings an image that a park before it wrote and no two accepted opens, starts and changes were given the same cipher, key
+-- and IV.
+pub keystream-once-on : (xs : List Made) → RanOn (replicate cardSize 0) xs → Unaltered xs → FreshKeys xs → KeystreamOnce xs
+keystream-once-on xs h = steps-keystream-once xs (from-zeros h)
 
 -- Two such lists that are alike but for data and for the key and IV bytes that are used leave the same trace: codes, counts, and what is public of the card after each call.
 pub trace-tells-nothing-on : (xs ys : List Made) → RanOn (replicate cardSize 0) xs → RanOn (replicate cardSize 0) ys → AlikeLists (callsOf xs) (callsOf ys) → map traced xs ≡ map traced ys

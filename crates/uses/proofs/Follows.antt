@@ -15,7 +15,7 @@ use Rattle.words.specs.Tests.{pick}
 use Rattle.keystream.specs.Stream.{xorFrom}
 use Rattle.keystream.proofs.Laws.{xorFrom-agree}
 use Rattle.ciphers.specs.Table.{cipherAt}
-use Rattle.machine.specs.Machine.{MLine, Machine, lineAt, plain, idle, byteOf, along, opened, loadedLine, startedLine, based, shown, enciphered, keyFor, ivFor, streamOf, imageOf, imageLine, imageFrom, imageNumber, Call, Effect, refuse, put, crypt, park, resume, change, start, perform}
+use Rattle.machine.specs.Machine.{MLine, Machine, lineAt, plain, idle, byteOf, along, renewed, changed, opened, loadedLine, startedLine, based, shown, enciphered, keyFor, ivFor, streamOf, imageOf, imageLine, imageFrom, imageNumber, Call, Effect, refuse, put, crypt, park, resume, change, start, perform}
 use Rattle.machine.specs.Parks.{Parks, heldFor, noMore, numberNow, parked, holds, taken}
 use Rattle.machine.specs.Calls.{CallBytes}
 use Rattle.lists.specs.Logs.{Did, did-nothing, did-open, did-crypt, did-park, did-resume, did-close, did-change, did-load, did-start, Stream, Log, begun, joined, placeAt, standing, newStream, noted}
@@ -29,7 +29,6 @@ use Rattle.lists.proofs.Images.{image-goes-on}
 use Rattle.lists.proofs.Explained.{Names, Explained, was-refused, was-open, was-crypt, was-park, was-resume, was-close, was-change, was-load, was-start}
 use Rattle.lists.proofs.Streams.{bare, Held, place-yes, place-no, place-begun, standing-begun}
 use Rattle.lists.proofs.OneStream.{sized, loaded-starts}
-use Rattle.lists.proofs.Trunk.{changed-mode}
 use Rattle.uses.specs.Uses.{Origin, KeyByte, valueOf, bytesFrom, changedAt, Notes, changeOrigin, startOrigin, forLine, noteCall, In}
 use Rattle.uses.proofs.Twice.{Either, in-first, in-second, either-in, only}
 use Rattle.uses.proofs.Apart.{taken-none, other-line, other-note}
@@ -172,10 +171,18 @@ taken-image p j noted image w = record { given = taken-given p j (imageFrom imag
 
 -- ---- a call
 
--- the line of an image is open
-open-mode : (image : List ℕ) → based (imageLine image) .mode ≡ 2 → ⊥
+-- neither the line of an image nor a line that is changed is loaded
+image-open : (image : List ℕ) → based (imageLine image) .mode ≡ 2 → ⊥
 unfolding based imageLine
-open-mode image z = let y : _≡_ {A = ℕ} 1 2 = z in omega (arith, y)
+image-open image z = let y : _≡_ {A = ℕ} 1 2 = z in omega (arith, y)
+
+changed-open : (l : MLine) (p : ℕ) (s : List ℕ) → l .mode ≡ 1 → changed l p s .mode ≡ 2 → ⊥
+unfolding changed renewed
+changed-open l p s up = by (eqb p (l .pos))
+  where
+    by : (b : Bool) → pick b (renewed l s) (record { mode = l .mode; cipher = l .cipher; base = l .base; from = l .from; pos = l .pos; due = p; waiting = s }) .mode ≡ 2 → ⊥
+    by true z = omega (arith, up, z)
+    by false z = omega (arith, up, z)
 
 -- line j is set: what is asked of lines of mode n holds of the new one, and of the others as it did
 by-line : (ls : List MLine) (j : ℕ) (l : MLine) (n i : ℕ) (P : Bool → Type 0) → j < length ls → (j ≡ i → l .mode ≡ n → P true) → (getD ls i idle .mode ≡ n → P false) →
@@ -255,7 +262,7 @@ module _ (m : Machine) (eight : length (m .lines) ≡ 8) (good : GoodCard m) (a 
       let on = image-is .goes-on (holds-told (m .parks) (imageFrom image) (imageNumber image) h) in
       record {
         lines = λ i. set-line j l 1 i (λ b. Follows (pick b (begun (based (imageLine image))) (g i)) (pick b (t .parked (imageFrom image)) (t .coming i))) s (λ _ _. on) (w .lines i);
-        loads = λ i. set-line j l 2 i (λ b. Loaded (pick b (begun (based (imageLine image))) (g i)) (t .load i)) s (λ _ z. absurd (open-mode image z)) (w .loads i);
+        loads = λ i. set-line j l 2 i (λ b. Loaded (pick b (begun (based (imageLine image))) (g i)) (t .load i)) s (λ _ z. absurd (image-open image z)) (w .loads i);
         images = λ y i. taken-image (m .parks) (imageFrom image) (t .parked) y (w .images y i);
       }
   call-link (put j l size) (did-close _) (was-close s) _ f =
@@ -290,6 +297,6 @@ module _ (m : Machine) (eight : length (m .lines) ≡ 8) (good : GoodCard m) (a 
             (λ e _. change-follows (g i) (t .coming j) p key iv (lines-at i j e up) (t .coming j 0 .origin .cipher) refl) (w .lines i);
         loads =
             λ i. set-line j _ 2 i (λ b. Loaded (pick b (newStream (g i) p (streamOf (standing (g i) .cipher) key iv)) (g i)) (t .load i)) s
-            (λ _ z. absurd (let y : _≡_ {A = ℕ} 1 2 = sym up ∙ sym (changed-mode (lineAt m j) p _) ∙ z in omega (arith, y))) (w .loads i);
+            (λ _ z. absurd (changed-open (lineAt m j) p _ up z)) (w .loads i);
         images = w .images;
       }

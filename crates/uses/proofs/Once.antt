@@ -2,7 +2,7 @@
 -- Assumes nothing.
 use Prim.Native.Nat.{ℕ, _+_, _<_}
 use mathlib.Core.Path.{_≡_, refl, ap, sym, _∙_, subst}
-use mathlib.Core.List.{List, [], _∷_, _++_, append-assoc, append-nil}
+use mathlib.Core.List.{List, [], _∷_, _++_, map, append-assoc, append-nil}
 use native.Mathlib.Omega.{arith}
 use lib.ListN.{length}
 use Rattle.keystream.specs.Stream.{xorFrom}
@@ -55,21 +55,21 @@ call-grown t (did-change i p key iv) = record { begun = one-more (t .begun) _; u
 call-grown t (did-load i c key) = record { begun = stays (t .begun); used = stays (t .used) }
 call-grown t (did-start i iv) = record { begun = one-more (t .begun) _; used = stays (t .used) }
 
-grown : (xs : List Made) (t : Notes) → Grown t (notesAfter t xs)
+grown : (ds : List Did) (t : Notes) → Grown t (notesAfter t ds)
 grown [] t = record { begun = stays (t .begun); used = stays (t .used) }
-grown (x ∷ xs) t =
-    let g = call-grown t (did x) in
-    let h = grown xs (noteCall t (did x)) in
+grown (d ∷ ds) t =
+    let g = call-grown t d in
+    let h = grown ds (noteCall t d) in
     record { begun = grows-on (g .begun) (h .begun); used = grows-on (g .used) (h .used) }
 
-notes-append : (xs ys : List Made) (t : Notes) → notesAfter t (xs ++ ys) ≡ notesAfter (notesAfter t xs) ys
+notes-append : (xs ys : List Made) (t : Notes) → notesAfter t (map did (xs ++ ys)) ≡ notesAfter (notesAfter t (map did xs)) (map did ys)
 notes-append [] ys t = refl
 notes-append (x ∷ xs) ys t = notes-append xs ys (noteCall t (did x))
 
 -- what is used up to a call and with it stands first in what is used later
 used-later : {before xs : List Made} {x : Made} → Stands before x xs → Grows (notesOf (before ++ (x ∷ [])) .used) (notesOf xs .used)
 used-later {before = before} {x = x} s =
-    let g = grown (s .after) (notesOf (before ++ (x ∷ []))) .used in
+    let g = grown (map did (s .after)) (notesOf (before ++ (x ∷ []))) .used in
     record { more = g .more; is = ap (λ (l : List Made). notesOf l .used) (s .is ∙ sym (append-assoc before (x ∷ []) (s .after))) ∙ ap (λ (t : Notes). t .used) (notes-append (before ++ (x ∷ [])) (s .after) noNotes) ∙ g .is }
 
 -- ---- a fresh card
@@ -137,7 +137,7 @@ made l g f h w text =
 
 -- what a crypt writes
 written-along : (before : List Made) (x : Made) (after : List Made) (m : Machine) (c : Seen) (g : ℕ → Log) (t : Notes) → Reached m c g → Runs m (before ++ (x ∷ after)) → AllBytes (before ++ (x ∷ after)) →
-    UnalteredAfter t (before ++ (x ∷ after)) → Link m g t → (i : ℕ) (input output : List ℕ) → did x ≡ did-crypt i input output → output ≡ xorFrom (λ k. valueOf (notesAfter t before .coming i k)) 0 input
+    UnalteredAfter t (map did (before ++ (x ∷ after))) → Link m g t → (i : ℕ) (input output : List ℕ) → did x ≡ did-crypt i input output → output ≡ xorFrom (λ k. valueOf (notesAfter t (map did before) .coming i k)) 0 input
 unfolding step
 written-along [] x after m c g t r h b u w i input output dx =
     let k = crypted m (x .call) _ (did x) (explained-at m x (h .0)) (fair-step m (x .call) (b .0)) i input output dx in
@@ -146,12 +146,12 @@ written-along (y ∷ before) x after m c g t r h b u w i input output dx =
     written-along before x after (step m (y .call) .machine) (y .card) (λ i. noted i (g i) (did y)) (noteCall t (did y)) (reached (y ∷ []) m c g r (h .0, tt) (b .0, tt)) (h .1) (b .1) (u .1)
     (call-link m (r .eight) (r .good) (y .call) (b .0) g (r .held) t w (decide (public m) (y .call)) (did y) (explained-at m y (h .0)) (fair-step m (y .call) (b .0)) (u .0)) i input output dx
 
-apart-along : (xs : List Made) (m : Machine) (c : Seen) (g : ℕ → Log) (t : Notes) → Reached m c g → Runs m xs → AllBytes xs → NoneTwice (notesAfter t xs .begun) → ApartAt m t →
-    ApartAt (machineAfter m xs) (notesAfter t xs)
+apart-along : (xs : List Made) (m : Machine) (c : Seen) (g : ℕ → Log) (t : Notes) → Reached m c g → Runs m xs → AllBytes xs → NoneTwice (notesAfter t (map did xs) .begun) → ApartAt m t →
+    ApartAt (machineAfter m xs) (notesAfter t (map did xs))
 unfolding step
 apart-along [] m c g t r h b n w = w
 apart-along (x ∷ xs) m c g t r h b n w =
-    let more = grown xs (noteCall t (did x)) .begun in
+    let more = grown (map did xs) (noteCall t (did x)) .begun in
     apart-along xs (step m (x .call) .machine) (x .card) (λ i. noted i (g i) (did x)) (noteCall t (did x)) (reached (x ∷ []) m c g r (h .0, tt) (b .0, tt)) (h .1) (b .1) n
     (call-apart m (r .eight) (r .good) (x .call) t w (decide (public m) (x .call)) (did x) (explained-at m x (h .0)) (fair-step m (x .call) (b .0))
     (none-before (noteCall t (did x) .begun) (more .more) (subst NoneTwice (more .is) n)))

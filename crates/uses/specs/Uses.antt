@@ -3,7 +3,7 @@
 -- Assumes nothing.
 use Prim.Native.Nat.{ℕ, zero, suc, _+_, _-_, _<_}
 use mathlib.Core.Path.{_≡_}
-use mathlib.Core.List.{List, [], _∷_, _++_}
+use mathlib.Core.List.{List, [], _∷_, _++_, map}
 use lib.Dec.{eqb, ltb}
 use lib.ListN.{length}
 use Rattle.words.specs.Tests.{pick}
@@ -99,12 +99,12 @@ noteCall t (did-load i c key) =
     record { load = forLine i (record { cipher = c; key = key; iv = [] }) (t .load); coming = t .coming; parked = t .parked; begun = t .begun; images = t .images; used = t .used }
 noteCall t (did-start i iv) = begins t i (bytesFrom (startOrigin t i iv)) (startOrigin t i iv)
 
-abbrev pub notesAfter : Notes → List Made → Notes
+abbrev pub notesAfter : Notes → List Did → Notes
 notesAfter t [] = t
-notesAfter t (x ∷ xs) = notesAfter (noteCall t (did x)) xs
+notesAfter t (d ∷ ds) = notesAfter (noteCall t d) ds
 
 abbrev pub notesOf : List Made → Notes
-notesOf xs = notesAfter noNotes xs
+notesOf xs = notesAfter noNotes (map did xs)
 
 -- ---- what is asked of a list
 
@@ -122,12 +122,12 @@ abbrev pub FreshKeys : List Made → Type 0
 FreshKeys xs = NoneTwice (notesOf xs .begun)
 
 -- every accepted resume brings an image that a park before it in the list wrote
-abbrev pub UnalteredAfter : Notes → List Made → Type 0
+abbrev pub UnalteredAfter : Notes → List Did → Type 0
 UnalteredAfter t [] = Unit {0}
-UnalteredAfter t (x ∷ xs) = ((j : ℕ) (image : List ℕ) → did x ≡ did-resume j image → In image (t .images)) × UnalteredAfter (noteCall t (did x)) xs
+UnalteredAfter t (d ∷ ds) = ((j : ℕ) (image : List ℕ) → d ≡ did-resume j image → In image (t .images)) × UnalteredAfter (noteCall t d) ds
 
 abbrev pub Unaltered : List Made → Type 0
-Unaltered xs = UnalteredAfter noNotes xs
+Unaltered xs = UnalteredAfter noNotes (map did xs)
 
 -- ---- what is claimed
 
