@@ -1,25 +1,25 @@
 -- No two bytes that are noted are the same. The bytes to come for open lines and for parks that are held are all different, none of them was used, and their streams were begun: a crypt uses the first of
 -- its line's, a park and a resume take them from place to place, and the bytes of a stream that begins are new, since no stream was begun with its cipher, key and IV.
 -- Assumes nothing.
-use Prim.Native.Nat.{ℕ, zero, suc, _+_, _-_, _<_, _≤_}
+use Prim.Native.Nat.{ℕ, _+_, _-_, _<_}
 use mathlib.Core.Path.{_≡_, refl, ap, sym, _∙_, subst}
 use mathlib.Core.Bool.{Bool, true, false}
 use mathlib.Core.List.{List, [], _∷_, _++_}
 use native.Mathlib.Omega.{arith}
 use native.Mathlib.Decide.{decLt, ℕ-discrete}
 use lib.Dec.{eqb, ltb}
-use lib.ListN.{length, getD, take, set, List·getD-eq-default}
+use lib.ListN.{length, getD, set, List·getD-eq-default}
 use lib.Seq.{getD-set-same, getD-set-other, set-out}
 use borrow.Author.Tests.{eqb-true, eqb-false, eq-eqb, ne-eqb, ltb-false}
 use Rattle.words.specs.Tests.{pick}
-use Rattle.machine.specs.Machine.{MLine, Machine, lineAt, withLine, withParks, idle, opened, loadedLine, startedLine, imageFrom, imageNumber, Call, Effect, refuse, put, crypt, park, resume, change, start, perform}
+use Rattle.machine.specs.Machine.{MLine, Machine, lineAt, withLine, withParks, idle, loadedLine, imageFrom, imageNumber, Call, Effect, refuse, put, crypt, park, resume, change, start, perform}
 use Rattle.machine.specs.Parks.{Parks, heldFor, parked, holds, taken}
 use Rattle.lists.specs.Logs.{Did, did-nothing, did-open, did-crypt, did-park, did-resume, did-close, did-change, did-load, did-start}
 use Rattle.machine.proofs.Parks.{holds-told, taken-spent, parked-other, taken-other}
-use Rattle.machine.proofs.Simulation.{GoodCard, Fair, fair-refuse, fair-put, fair-crypt, fair-park, fair-resume, fair-change, fair-start}
-use Rattle.lists.proofs.Explained.{Names, Explained, was-refused, was-open, was-crypt, was-park, was-resume, was-close, was-change, was-load, was-start}
-use Rattle.uses.specs.Uses.{Origin, KeyByte, bytesFrom, changedAt, firstOf, Notes, changeOrigin, startOrigin, forLine, begins, noteCall, In, in-head, NoneTwice}
-use Rattle.uses.proofs.Twice.{Either, in-first, in-second, either-in, first-in, second-in, only, parts-apart, none-twice, nth-of, first-once}
+use Rattle.machine.proofs.Simulation.{GoodCard, Fair, fair-crypt}
+use Rattle.lists.proofs.Explained.{Explained, was-refused, was-open, was-crypt, was-park, was-resume, was-close, was-change, was-load, was-start}
+use Rattle.uses.specs.Uses.{Origin, KeyByte, bytesFrom, changedAt, firstBytes, Notes, changeOrigin, forLine, begins, noteCall, In, in-head, NoneTwice}
+use Rattle.uses.proofs.Twice.{Either, in-first, in-second, either-in, first-in, second-in, parts-apart, none-twice, nth-of, first-once}
 
 -- ---- places
 
@@ -83,7 +83,7 @@ module _ {live live' : Place → Type 0} {b b' : Place → ℕ → KeyByte} {os 
 -- the first n bytes of line j that are used
 module _ {live live' : Place → Type 0} {b b' : Place → ℕ → KeyByte} {os : List Origin} {us : List KeyByte} (j n : ℕ) (up : live (here j)) (on : Place → ℕ) (far : on (here j) ≡ n)
     (was : (p : Place) → live' p → live p) (is : (p : Place) → live' p → (k : ℕ) → b' p k ≡ b p (on p + k)) (w : Apart live b os us) where
-  used-apart : Apart live' b' os (us ++ firstOf n (b (here j)))
+  used-apart : Apart live' b' os (us ++ firstBytes n (b (here j)))
   used-apart =
       record {
         apart =
@@ -92,15 +92,15 @@ module _ {live live' : Place → Type 0} {b b' : Place → ℕ → KeyByte} {os 
             let y = ap on (z .0) in
             let x = z .1 in
             (z .0, omega (arith, x, y));
-        unused = λ p a k i. unused p a k (either-in us _ (subst (λ (x : KeyByte). In x (us ++ firstOf n (b (here j)))) (is p a k) i));
+        unused = λ p a k i. unused p a k (either-in us _ (subst (λ (x : KeyByte). In x (us ++ firstBytes n (b (here j)))) (is p a k) i));
         begun = λ p a k. subst (λ (x : KeyByte). In (x .origin) os) (sym (is p a k)) (w .begun p (was p a) (on p + k));
         origins = λ u i. origins u (either-in us _ i);
         once =
-            none-twice us (firstOf n (b (here j))) (w .once) (first-once n (b (here j)) (λ k l e. w .apart (here j) (here j) up up k l e .1))
+            none-twice us (firstBytes n (b (here j))) (w .once) (first-once n (b (here j)) (λ k l e. w .apart (here j) (here j) up up k l e .1))
             (λ x i i'. let h = nth-of n (b (here j)) x i' in w .unused (here j) up (h .number) (subst (λ (y : KeyByte). In y us) (h .is) i));
       }
     where
-      unused : (p : Place) → live' p → (k : ℕ) → Either (b p (on p + k)) us (firstOf n (b (here j))) → ⊥
+      unused : (p : Place) → live' p → (k : ℕ) → Either (b p (on p + k)) us (firstBytes n (b (here j))) → ⊥
       unused p a k (in-first i) = w .unused p (was p a) (on p + k) i
       unused p a k (in-second i) =
           let h = nth-of n (b (here j)) (b p (on p + k)) i in
@@ -110,7 +110,7 @@ module _ {live live' : Place → Type 0} {b b' : Place → ℕ → KeyByte} {os 
           let q = h .below in
           omega (arith, x, y, q, far)
 
-      origins : (u : KeyByte) → Either u us (firstOf n (b (here j))) → In (u .origin) os
+      origins : (u : KeyByte) → Either u us (firstBytes n (b (here j))) → In (u .origin) os
       origins u (in-first i) = w .origins u i
       origins u (in-second i) =
           let h = nth-of n (b (here j)) u i in

@@ -3,7 +3,7 @@
 -- Assumes nothing.
 use Prim.Native.Nat.{ℕ, _^_}
 use mathlib.Core.Path.{_≡_, refl, ap, sym, subst}
-use mathlib.Core.Bool.{Bool, true, false}
+use mathlib.Core.Bool.{Bool, true}
 use mathlib.Core.List.{List, [], _∷_, _++_, map}
 use native.Mathlib.Omega.{arith}
 use lib.Dec.{ltb}
@@ -25,9 +25,9 @@ use Rattle.ciphers.specs.Kept.{keptOf, startOf}
 use Rattle.command.specs.Decode.{readOf, lengthOf, openOf, cryptOf, changeOf, commandOf, decodeOf}
 use Rattle.machine.specs.Machine.{Call, plainLine, unitAt, stateOf, byteOf, shown, based, opened, loadedLine, startedLine, along, renewed, moved, xored, enciphered, changed, imageOf, imageLine, imageFrom, imageNumber, stateOk, viewOf, spareUsed, blankKey, refuseIf, decided, decide, step, freshMachine}
 use Rattle.machine.specs.Parks.{noMore, numberNow, parked, holds, taken}
-use Rattle.machine.specs.Calls.{Made, machineRun, callsOf, CallBytes, BytesIn}
+use Rattle.machine.specs.Calls.{Made, machineRun, BytesIn}
 use Rattle.lists.specs.Logs.{Did, did-nothing, did-open, did-crypt, did-park, did-resume, did-change, did-load, did-start, did}
-use Rattle.uses.specs.Uses.{Origin, KeyByte, bytesFrom, changedAt, firstOf, noNotes, notesAfter, notesOf, In, in-head, in-tail, NoneTwice, FreshKeys, UnalteredAfter, Unaltered, KeystreamOnce}
+use Rattle.uses.specs.Uses.{Origin, bytesFrom, changedAt, noNotes, notesAfter, notesOf, In, in-head, in-tail, NoneTwice, FreshKeys, UnalteredAfter, Unaltered, KeystreamOnce}
 use Rattle.uses.proofs.Twice.{in-none}
 use Rattle.uses.proofs.Once.{machine-keystream-once}
 

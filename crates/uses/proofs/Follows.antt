@@ -1,7 +1,7 @@
 -- The notes tell the truth: on each open line the bytes to come are those of the streams in its log, from where the log stands on; a loaded line's key is that of its last load; and each image that a
 -- park wrote and whose number is held goes on with the bytes that are noted of its line. A call keeps this, a resume where it brings an image that a park wrote.
 -- Assumes nothing.
-use Prim.Native.Nat.{ℕ, zero, suc, _+_, _-_, _^_, _<_, _≤_}
+use Prim.Native.Nat.{ℕ, _+_, _-_, _^_, _<_}
 use mathlib.Core.Path.{_≡_, refl, ap, ap₂, sym, _∙_, subst}
 use mathlib.Core.Bool.{Bool, true, false}
 use mathlib.Core.List.{List, [], _∷_, _++_}
@@ -12,15 +12,13 @@ use lib.Seq.{getD-set-same}
 use borrow.Author.Tests.{eqb-true, eqb-false, eq-eqb, ltb-true, ltb-false}
 use Rattle.words.specs.Lists.{All, Byte}
 use Rattle.words.specs.Tests.{pick}
-use Rattle.keystream.specs.Stream.{xorFrom}
-use Rattle.keystream.proofs.Laws.{xorFrom-agree}
 use Rattle.ciphers.specs.Table.{cipherAt}
-use Rattle.machine.specs.Machine.{MLine, Machine, lineAt, plain, idle, byteOf, along, renewed, changed, opened, loadedLine, startedLine, based, shown, enciphered, keyFor, ivFor, streamOf, imageOf, imageLine, imageFrom, imageNumber, Call, Effect, refuse, put, crypt, park, resume, change, start, perform}
-use Rattle.machine.specs.Parks.{Parks, heldFor, noMore, numberNow, parked, holds, taken}
+use Rattle.machine.specs.Machine.{MLine, Machine, lineAt, plain, idle, byteOf, along, renewed, changed, opened, loadedLine, startedLine, based, shown, keyFor, ivFor, streamOf, imageOf, imageLine, imageFrom, imageNumber, Call, Effect, refuse, put, crypt, park, resume, change, start, perform}
+use Rattle.machine.specs.Parks.{Parks, heldFor, noMore, numberNow, parked, taken}
 use Rattle.machine.specs.Calls.{CallBytes}
 use Rattle.lists.specs.Logs.{Did, did-nothing, did-open, did-crypt, did-park, did-resume, did-close, did-change, did-load, did-start, Stream, Log, begun, joined, placeAt, standing, newStream, noted}
 use Rattle.lists.specs.OneStream.{GoesOn}
-use Rattle.machine.proofs.Moves.{moved-bare, moved-mode, byteHere, enciphered-bytes}
+use Rattle.machine.proofs.Moves.{moved-bare, moved-mode, byteHere}
 use Rattle.machine.proofs.Lines.{good-behind}
 use Rattle.machine.proofs.Fields.{from-back, number-back}
 use Rattle.machine.proofs.Parks.{Given, parked-given, taken-given, replaced-spent, now-given, holds-told, parked-other, taken-other, number-word}

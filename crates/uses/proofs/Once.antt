@@ -8,7 +8,7 @@ use lib.ListN.{length}
 use Rattle.keystream.specs.Stream.{xorFrom}
 use Rattle.keystream.proofs.Laws.{xorFrom-agree}
 use Rattle.machine.specs.Machine.{MLine, Machine, Seen, lineAt, idle, byteOf, enciphered, Call, Effect, refuse, put, crypt, park, resume, change, start, public, decide, step, freshMachine, freshCard}
-use Rattle.machine.specs.Parks.{freshParks, heldFor}
+use Rattle.machine.specs.Parks.{freshParks}
 use Rattle.machine.specs.Calls.{Made, machineRun, callsOf, AllBytes}
 use Rattle.lists.specs.Logs.{Did, did-nothing, did-open, did-crypt, did-park, did-resume, did-close, did-change, did-load, did-start, did, Log, begun, noted}
 use Rattle.lists.specs.OneStream.{Stands}
@@ -20,7 +20,7 @@ use Rattle.lists.proofs.Explained.{Explained, was-refused, was-open, was-crypt,
 use Rattle.lists.proofs.Streams.{Held, held-here, standing-begun}
 use Rattle.lists.proofs.OneStream.{Runs, machineAfter, runs, explained-at, Reached, reached, reached-fresh, stands-in}
 use Rattle.lists.proofs.Steps.{steps-bytes, steps-one-stream}
-use Rattle.uses.specs.Uses.{KeyByte, valueOf, firstOf, Notes, noNotes, noteCall, notesAfter, notesOf, In, NoneTwice, FreshKeys, UnalteredAfter, Unaltered, CryptUses, KeystreamOnce}
+use Rattle.uses.specs.Uses.{KeyByte, valueOf, firstBytes, Notes, noNotes, noteCall, notesAfter, notesOf, In, NoneTwice, FreshKeys, UnalteredAfter, Unaltered, CryptUses, KeystreamOnce}
 use Rattle.uses.proofs.Twice.{in-none, first-in, second-in, parts-apart, none-before, nth-in}
 use Rattle.uses.proofs.Apart.{Place, here, held, Live, ApartAt, call-apart}
 use Rattle.uses.proofs.Follows.{Follows, Link, call-link}
@@ -184,9 +184,9 @@ module _ (xs : List Made) (is : xs ≡ machineRun freshMachine (callsOf xs)) (by
       let there : In b (notesOf sofar .used) =
       subst (In b) (sym (first .is ∙ ap (λ (us : List KeyByte). us ++ first .more) nx))
       (first-in (first .more) (second-in (notesOf before .used) (nth-in (length input) (notesOf before .coming i) k q))) in
-      let n = none-before (notesOf sofar .used ++ firstOf (length input') (notesOf sofar .coming j)) (all .more) (subst NoneTwice (all .is ∙ ap (λ (us : List KeyByte). us ++ all .more) ny) (once-in f)) in
-      parts-apart (notesOf sofar .used) (firstOf (length input') (notesOf sofar .coming j)) n there
-      (subst (λ (c : KeyByte). In c (firstOf (length input') (notesOf sofar .coming j))) (sym e) (nth-in (length input') (notesOf sofar .coming j) l r))
+      let n = none-before (notesOf sofar .used ++ firstBytes (length input') (notesOf sofar .coming j)) (all .more) (subst NoneTwice (all .is ∙ ap (λ (us : List KeyByte). us ++ all .more) ny) (once-in f)) in
+      parts-apart (notesOf sofar .used) (firstBytes (length input') (notesOf sofar .coming j)) n there
+      (subst (λ (c : KeyByte). In c (firstBytes (length input') (notesOf sofar .coming j))) (sym e) (nth-in (length input') (notesOf sofar .coming j) l r))
 
   -- Every list that is the machine's, in which commands and trays hold bytes.
   pub machine-keystream-once : Unaltered xs → FreshKeys xs → KeystreamOnce xs

@@ -1,10 +1,10 @@
 -- Lists in which nothing stands twice: parts of such a list, and what may be put behind one.
 -- Assumes nothing.
 use Prim.Native.Nat.{ℕ, zero, suc, _<_}
-use mathlib.Core.Path.{_≡_, refl, ap, sym, _∙_, subst}
+use mathlib.Core.Path.{_≡_, refl}
 use mathlib.Core.List.{List, [], _∷_, _++_}
 use native.Mathlib.Omega.{arith}
-use Rattle.uses.specs.Uses.{KeyByte, firstOf, In, in-head, in-tail, NoneTwice}
+use Rattle.uses.specs.Uses.{KeyByte, firstBytes, In, in-head, in-tail, NoneTwice}
 
 -- nothing stands in an empty list
 abbrev Some : {A : Type 0} → List A → Type 0
@@ -69,19 +69,19 @@ pub record Nth (n : ℕ) (f : ℕ → KeyByte) (b : KeyByte) : Type 0 where
   pub below : number < n
   pub is : b ≡ f number
 
-pub nth-of : (n : ℕ) (f : ℕ → KeyByte) (b : KeyByte) → In b (firstOf n f) → Nth n f b
+pub nth-of : (n : ℕ) (f : ℕ → KeyByte) (b : KeyByte) → In b (firstBytes n f) → Nth n f b
 nth-of (suc n) f b in-head = record { number = 0; below = omega arith; is = refl }
 nth-of (suc n) f b (in-tail i) =
     let w = nth-of n (λ k. f (suc k)) b i in
     let q = w .below in
     record { number = suc (w .number); below = omega (arith, q); is = w .is }
 
-pub nth-in : (n : ℕ) (f : ℕ → KeyByte) (k : ℕ) → k < n → In (f k) (firstOf n f)
+pub nth-in : (n : ℕ) (f : ℕ → KeyByte) (k : ℕ) → k < n → In (f k) (firstBytes n f)
 nth-in zero f k q = absurd (omega (arith, q))
 nth-in (suc n) f zero q = in-head
 nth-in (suc n) f (suc k) q = in-tail (nth-in n (λ j. f (suc j)) k (omega (arith, q)))
 
-pub first-once : (n : ℕ) (f : ℕ → KeyByte) → ((k l : ℕ) → f k ≡ f l → k ≡ l) → NoneTwice (firstOf n f)
+pub first-once : (n : ℕ) (f : ℕ → KeyByte) → ((k l : ℕ) → f k ≡ f l → k ≡ l) → NoneTwice (firstBytes n f)
 first-once zero f h = tt
 first-once (suc n) f h = (
   λ i. let w = nth-of n (λ k. f (suc k)) (f zero) i in let z = h zero (suc (w .number)) (w .is) in omega (arith, z),

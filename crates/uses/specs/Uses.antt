@@ -39,9 +39,9 @@ unfoldable pub changedAt : (ℕ → KeyByte) → (p : ℕ) → Origin → ℕ �
 changedAt f p o k = let left = p - f 0 .position in pick (ltb k left) (f k) (bytesFrom o (k - left))
 
 -- the first n of bytes to come
-abbrev pub firstOf : ℕ → (ℕ → KeyByte) → List KeyByte
-firstOf zero f = []
-firstOf (suc n) f = f zero ∷ firstOf n (λ k. f (suc k))
+abbrev pub firstBytes : ℕ → (ℕ → KeyByte) → List KeyByte
+firstBytes zero f = []
+firstBytes (suc n) f = f zero ∷ firstBytes n (λ k. f (suc k))
 
 -- ---- notes
 
@@ -87,7 +87,7 @@ noteCall t (did-crypt i input output) =
       parked = t .parked;
       begun = t .begun;
       images = t .images;
-      used = t .used ++ firstOf (length input) (t .coming i);
+      used = t .used ++ firstBytes (length input) (t .coming i);
     }
 noteCall t (did-park i image) =
     record { load = t .load; coming = t .coming; parked = forLine i (t .coming i) (t .parked); begun = t .begun; images = t .images ++ (image ∷ []); used = t .used }
@@ -134,7 +134,7 @@ Unaltered xs = UnalteredAfter noNotes (map did xs)
 -- A crypt on line i: each byte of its output is the byte of its input XORed with the keystream byte that is noted for it, and those are the bytes that are noted.
 pub record CryptUses (before : List Made) (x : Made) (i : ℕ) (input output : List ℕ) : Type 0 where
   pub written : output ≡ xorFrom (λ k. valueOf (notesOf before .coming i k)) 0 input
-  pub noted : notesOf (before ++ (x ∷ [])) .used ≡ notesOf before .used ++ firstOf (length input) (notesOf before .coming i)
+  pub noted : notesOf (before ++ (x ∷ [])) .used ≡ notesOf before .used ++ firstBytes (length input) (notesOf before .coming i)
 
 pub record KeystreamOnce (xs : List Made) : Type 0 where
   pub crypts : {before : List Made} {x : Made} → Stands before x xs → (i : ℕ) (input output : List ℕ) → did x ≡ did-crypt i input output → CryptUses before x i input output
