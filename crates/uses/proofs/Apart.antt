@@ -50,20 +50,28 @@ kindOf (held i) = 1
 here-held : (i j : ℕ) → here i ≡ held j → ⊥
 here-held i j e = let z : _≡_ {A = ℕ} 0 1 = ap kindOf e in omega (arith, z)
 
-is-here : (j : ℕ) (p : Place) → Dec (p ≡ here j)
-is-here j (here i) = by (ℕ-discrete i j)
+same-place : (p q : Place) → Dec (p ≡ q)
+same-place (here i) (here j) = by (ℕ-discrete i j)
   where
     by : Dec (i ≡ j) → Dec (here i ≡ here j)
     by (yes e) = yes (ap here e)
     by (no n) = no (λ e. n (ap lineOfPlace e))
-is-here j (held i) = no (λ e. here-held j i (sym e))
+same-place (held i) (held j) = by (ℕ-discrete i j)
+  where
+    by : Dec (i ≡ j) → Dec (held i ≡ held j)
+    by (yes e) = yes (ap held e)
+    by (no n) = no (λ e. n (ap lineOfPlace e))
+same-place (here i) (held j) = no (here-held i j)
+same-place (held i) (here j) = no (λ e. here-held j i (sym e))
 
 -- ---- all bytes to come are different
 
 pub record Apart (live : Place → Type 0) (b : Place → ℕ → KeyByte) (os : List Origin) (us : List KeyByte) : Type 0 where
   pub apart : (p q : Place) → live p → live q → (k l : ℕ) → b p k ≡ b q l → (p ≡ q) × (k ≡ l)
+  -- none of them was used, and all are of streams that were begun
   pub unused : (p : Place) → live p → (k : ℕ) → In (b p k) us → ⊥
   pub begun : (p : Place) → live p → (k : ℕ) → In (b p k .origin) os
+  -- so are those that were used, none of them twice
   pub origins : (u : KeyByte) → In u us → In (u .origin) os
   pub once : NoneTwice us
 
@@ -79,6 +87,34 @@ module _ {live live' : Place → Type 0} {b b' : Place → ℕ → KeyByte} {os 
         origins = w .origins;
         once = w .once;
       }
+
+-- those of place p, which go to q
+module _ {live live' : Place → Type 0} {b b' : Place → ℕ → KeyByte} (p q : Place) (up : live p) (gone : live' p → ⊥)
+    (was : (r : Place) → (r ≡ q → ⊥) → live' r → live r) (now : (k : ℕ) → b' q k ≡ b p k) (is : (r : Place) → (r ≡ q → ⊥) → (k : ℕ) → b' r k ≡ b r k) where
+  source : (r : Place) → Dec (r ≡ q) → Place
+  source r (yes _) = p
+  source r (no _) = r
+
+  source-was : (r : Place) (d : Dec (r ≡ q)) → live' r → live (source r d)
+  unfolding source
+  source-was r (yes _) a = up
+  source-was r (no n) a = was r n a
+
+  source-is : (r : Place) (d : Dec (r ≡ q)) (k : ℕ) → b' r k ≡ b (source r d) k
+  unfolding source
+  source-is r (yes e) k = ap (λ (s : Place). b' s k) e ∙ now k
+  source-is r (no n) k = is r n k
+
+  source-one : (r s : Place) (d : Dec (r ≡ q)) (e : Dec (s ≡ q)) → live' r → live' s → source r d ≡ source s e → r ≡ s
+  unfolding source
+  source-one r s (yes x) (yes y) a c z = x ∙ sym y
+  source-one r s (yes x) (no y) a c z = absurd (gone (subst live' (sym z) c))
+  source-one r s (no x) (yes y) a c z = absurd (gone (subst live' z a))
+  source-one r s (no x) (no y) a c z = z
+
+  shift-apart : {os : List Origin} {us : List KeyByte} → Apart live b os us → Apart live' b' os us
+  shift-apart w =
+      moved-apart (λ r. source r (same-place r q)) (λ r a. source-was r (same-place r q) a) (λ r a k. source-is r (same-place r q) k) (λ r s a c z. source-one r s (same-place r q) (same-place s q) a c z) w
 
 -- the first n bytes of line j that are used
 module _ {live live' : Place → Type 0} {b b' : Place → ℕ → KeyByte} {os : List Origin} {us : List KeyByte} (j n : ℕ) (up : live (here j)) (on : Place → ℕ) (far : on (here j) ≡ n)
@@ -116,7 +152,7 @@ module _ {live live' : Place → Type 0} {b b' : Place → ℕ → KeyByte} {os 
           let h = nth-of n (b (here j)) u i in
           subst (λ (x : KeyByte). In (x .origin) os) (sym (h .is)) (w .begun (here j) up (h .number))
 
--- a stream that begins on line j, d bytes on
+-- A stream that begins on line j, d bytes on: byte k to come is the one that it was, on an open line, or one of the new stream.
 data Kind (old : ℕ → KeyByte) (up : Type 0) (new : ℕ → KeyByte) (o : Origin) (d k : ℕ) : Type 0 where
   stays : up → new k ≡ old k → Kind old up new o d k
   is-new : (n : ℕ) → n + d ≡ k → new k ≡ bytesFrom o n → Kind old up new o d k
@@ -164,9 +200,9 @@ module _ {live live' : Place → Type 0} {b b' : Place → ℕ → KeyByte} {os 
   begun-apart : Apart live' b' (os ++ (o ∷ [])) us
   begun-apart =
       record {
-        apart = λ p q a c k l z. all-apart p q a c k l z (is-here j p) (is-here j q);
-        unused = λ p a k i. unused-at p a k i (is-here j p);
-        begun = λ p a k. begun-at p a k (is-here j p);
+        apart = λ p q a c k l z. all-apart p q a c k l z (same-place p (here j)) (same-place q (here j));
+        unused = λ p a k i. unused-at p a k i (same-place p (here j));
+        begun = λ p a k. begun-at p a k (same-place p (here j));
         origins = λ u i. first-in (o ∷ []) (w .origins u i);
         once = w .once;
       }
@@ -180,9 +216,18 @@ ApartAt m t = Apart (Live m) (bytesAt t) (t .begun) (t .used)
 pub other-line : (ls : List MLine) (j i : ℕ) (l : MLine) → eqb j i ≡ false → getD (set ls j l) i idle ≡ getD ls i idle
 other-line ls j i l e = getD-set-other ls j i l idle (λ z. eqb-false j i e (sym z))
 
--- and what is noted of it
+-- what is noted of a line, and of another
+pub its-note : {A : Type 0} (f : ℕ → A) (j : ℕ) (x : A) → forLine j x f j ≡ x
+its-note f j x = ap (λ (b : Bool). pick b x (f j)) (eq-eqb j j refl)
+
 pub other-note : {A : Type 0} (f : ℕ → A) (j i : ℕ) (x : A) → eqb j i ≡ false → forLine j x f i ≡ f i
 other-note f j i x e = ap (λ (b : Bool). pick b x (f i)) e
+
+not-here : (j i : ℕ) → (here i ≡ here j → ⊥) → eqb j i ≡ false
+not-here j i ne = ne-eqb j i (λ e. ne (ap here (sym e)))
+
+not-held : (j i : ℕ) → (held i ≡ held j → ⊥) → eqb j i ≡ false
+not-held j i ne = ne-eqb j i (λ e. ne (ap held (sym e)))
 
 -- a number that is taken up is not held
 pub taken-none : (p : Parks) (i : ℕ) → heldFor (taken p i) i ≡ 0
@@ -194,47 +239,47 @@ taken-none p i = by (decLt i (length (p .held)))
     by (no q) = ap (λ (l : List ℕ). getD l i 0) (set-out (p .held) i 0 (omega (arith, q))) ∙ List·getD-eq-default (p .held) 0 (omega (arith, q))
 
 module _ (m : Machine) (eight : length (m .lines) ≡ 8) (good : GoodCard m) (a : Call) (t : Notes) (w : ApartAt m t) where
-  -- line j is set to l, which is not open, and nothing else is done
+  -- another line is as it was
+  same-mode : (j i : ℕ) (l : MLine) → eqb j i ≡ false → getD (set (m .lines) j l) i idle .mode ≡ 1 → lineAt m i .mode ≡ 1
+  same-mode j i l e h = sym (ap (λ (x : MLine). x .mode) (other-line (m .lines) j i l e)) ∙ h
+
+  -- line j is set to l, which is not open
   module _ (j : ℕ) (l : MLine) (below : j < 8) (shut : l .mode ≡ 1 → ⊥) where
-    shut-line : (i : ℕ) → getD (set (m .lines) j l) i idle .mode ≡ 1 → (b : Bool) → eqb j i ≡ b → eqb j i ≡ false
-    shut-line i h true e =
-        absurd (shut (sym (ap (λ (x : MLine). x .mode) (ap (λ (k : ℕ). getD (set (m .lines) j l) k idle) (sym (eqb-true j i e)) ∙ getD-set-same (m .lines) j l idle (omega (arith, below, eight)))) ∙ h))
-    shut-line i h false e = e
+    now-shut : getD (set (m .lines) j l) j idle .mode ≡ 1 → ⊥
+    now-shut h = shut (sym (ap (λ (x : MLine). x .mode) (getD-set-same (m .lines) j l idle (omega (arith, below, eight)))) ∙ h)
 
     still-open : (i : ℕ) → getD (set (m .lines) j l) i idle .mode ≡ 1 → lineAt m i .mode ≡ 1
-    still-open i h = sym (ap (λ (x : MLine). x .mode) (other-line (m .lines) j i l (shut-line i h (eqb j i) refl))) ∙ h
+    still-open i h = by (eqb j i) refl
+      where
+        by : (b : Bool) → eqb j i ≡ b → lineAt m i .mode ≡ 1
+        by true e = absurd (now-shut (ap (λ (k : ℕ). getD (set (m .lines) j l) k idle .mode) (eqb-true j i e) ∙ h))
+        by false e = same-mode j i l e h
 
-    close-apart : ApartAt (withLine m j l) t
-    close-apart = moved-apart (λ p. p) was (λ p h k. refl) (λ p q h g e. e) w
+    shut-apart : ApartAt (withLine m j l) t
+    shut-apart = moved-apart (λ p. p) was (λ p h k. refl) (λ p q h g e. e) w
       where
         was : (p : Place) → Live (withLine m j l) p → Live m p
         was (here i) h = still-open i h
         was (held i) h = h
 
   -- a stream that begins on line j
-  begin-apart : (j d : ℕ) (l : MLine) (f : ℕ → KeyByte) (o : Origin) → NoneTwice (t .begun ++ (o ∷ [])) →
-      ((k : ℕ) → Kind (t .coming j) (lineAt m j .mode ≡ 1) f o d k) →
-      Apart (Live (withLine m j l)) (bytesAt (begins t j f o)) (t .begun ++ (o ∷ [])) (t .used)
+  begin-apart : (j d : ℕ) (l : MLine) (f : ℕ → KeyByte) (o : Origin) → NoneTwice (t .begun ++ (o ∷ [])) → ((k : ℕ) → Kind (t .coming j) (lineAt m j .mode ≡ 1) f o d k) →
+      ApartAt (withLine m j l) (begins t j f o)
   begin-apart j d l f o n kind =
-      begun-apart j d o (λ i. parts-apart (t .begun) (o ∷ []) n i in-head) was is (λ k. subst (λ (g : ℕ → KeyByte). Kind (t .coming j) (lineAt m j .mode ≡ 1) g o d k) (sym (on-its-line j f)) (kind k)) w
+      begun-apart j d o (λ i. parts-apart (t .begun) (o ∷ []) n i in-head) was is
+      (λ k. subst (λ (g : ℕ → KeyByte). Kind (t .coming j) (lineAt m j .mode ≡ 1) g o d k) (sym (its-note (t .coming) j f)) (kind k)) w
     where
-      apart-line : (i : ℕ) → (here i ≡ here j → ⊥) → eqb j i ≡ false
-      apart-line i ne = ne-eqb j i (λ e. ne (ap here (sym e)))
-
       was : (p : Place) → Live (withLine m j l) p → (p ≡ here j → ⊥) → Live m p
-      was (here i) h ne = sym (ap (λ (x : MLine). x .mode) (other-line (m .lines) j i l (apart-line i ne))) ∙ h
+      was (here i) h ne = same-mode j i l (not-here j i ne) h
       was (held i) h ne = h
 
       is : (p : Place) → (p ≡ here j → ⊥) → (k : ℕ) → bytesAt (begins t j f o) p k ≡ bytesAt t p k
-      is (here i) ne k = ap (λ (g : ℕ → KeyByte). g k) (other-note (t .coming) j i f (apart-line i ne))
+      is (here i) ne k = ap (λ (g : ℕ → KeyByte). g k) (other-note (t .coming) j i f (not-here j i ne))
       is (held i) ne k = refl
-
-      on-its-line : (j : ℕ) (f : ℕ → KeyByte) → forLine j f (t .coming) j ≡ f
-      on-its-line j f = ap (λ (b : Bool). pick b f (t .coming j)) (eq-eqb j j refl)
 
   -- a crypt
   crypt-apart : (j : ℕ) (l : MLine) (input output : List ℕ) → lineAt m j .mode ≡ 1 → ApartAt (withLine m j l) (noteCall t (did-crypt j input output))
-  crypt-apart j l input output up = used-apart j (length input) up on (ap (λ (b : Bool). pick b (length input) 0) (eq-eqb j j refl)) was is w
+  crypt-apart j l input output up = used-apart j (length input) up on (its-note (λ _. 0) j (length input)) was is w
     where
       on : Place → ℕ
       on (here i) = pick (eqb j i) (length input) 0
@@ -245,7 +290,7 @@ module _ (m : Machine) (eight : length (m .lines) ≡ 8) (good : GoodCard m) (a 
         where
           by : (b : Bool) → eqb j i ≡ b → lineAt m i .mode ≡ 1
           by true e = subst (λ (k : ℕ). lineAt m k .mode ≡ 1) (eqb-true j i e) up
-          by false e = sym (ap (λ (x : MLine). x .mode) (other-line (m .lines) j i l e)) ∙ h
+          by false e = same-mode j i l e h
       was (held i) h = h
 
       is : (p : Place) → Live (withLine m j l) p → (k : ℕ) → bytesAt (noteCall t (did-crypt j input output)) p k ≡ bytesAt t p (on p + k)
@@ -256,108 +301,44 @@ module _ (m : Machine) (eight : length (m .lines) ≡ 8) (good : GoodCard m) (a 
           by false e = ap (t .coming i) (let z : k ≡ 0 + k = omega arith in z)
       is (held i) h k = ap (t .parked i) (let z : k ≡ 0 + k = omega arith in z)
 
-  -- a park
-  module _ (j : ℕ) (below : j < 8) (up : lineAt m j .mode ≡ 1) (image : List ℕ) where
-    abbrev parkedNow : Machine
-    parkedNow = withParks (withLine m j idle) (parked (m .parks) j)
+  -- a park: its line's bytes are those of the park
+  park-apart : (j : ℕ) (image : List ℕ) → j < 8 → lineAt m j .mode ≡ 1 → ApartAt (withParks (withLine m j idle) (parked (m .parks) j)) (noteCall t (did-park j image))
+  park-apart j image below up =
+      shift-apart (here j) (held j) up (now-shut j idle below shut) was (λ k. ap (λ (g : ℕ → KeyByte). g k) (its-note (t .parked) j (t .coming j))) is w
+    where
+      shut : idle .mode ≡ 1 → ⊥
+      shut e = omega (arith, e)
 
-    shut : idle .mode ≡ 1 → ⊥
-    shut e = omega (arith, e)
+      was : (p : Place) → (p ≡ held j → ⊥) → Live (withParks (withLine m j idle) (parked (m .parks) j)) p → Live m p
+      was (here i) ne h = still-open j idle below shut i h
+      was (held i) ne h = λ z. h (parked-other (m .parks) j i (λ e. ne (ap held e)) ∙ z)
 
-    -- its bytes are those that its line had
-    abbrev parkedFrom : Place → Place
-    parkedFrom (here i) = here i
-    parkedFrom (held i) = pick (eqb j i) (here j) (held i)
+      is : (p : Place) → (p ≡ held j → ⊥) → (k : ℕ) → bytesAt (noteCall t (did-park j image)) p k ≡ bytesAt t p k
+      is (here i) ne k = refl
+      is (held i) ne k = ap (λ (g : ℕ → KeyByte). g k) (other-note (t .parked) j i (t .coming j) (not-held j i ne))
 
-    parked-was : (p : Place) → Live parkedNow p → Live m (parkedFrom p)
-    parked-was (here i) h = still-open j idle below shut i h
-    parked-was (held i) h = by (eqb j i) refl
-      where
-        by : (b : Bool) → eqb j i ≡ b → Live m (pick b (here j) (held i))
-        by true e = up
-        by false e = λ z. h (parked-other (m .parks) j i (λ q. eqb-false j i e (sym q)) ∙ z)
+  -- a resume: those of the park are its line's
+  resume-apart : (j : ℕ) (l : MLine) (image : List ℕ) → holds (m .parks) (imageFrom image) (imageNumber image) ≡ true →
+      ApartAt (withParks (withLine m j l) (taken (m .parks) (imageFrom image))) (noteCall t (did-resume j image))
+  resume-apart j l image h =
+      shift-apart (held (imageFrom image)) (here j) up (λ g. g (taken-none (m .parks) (imageFrom image))) was
+      (λ k. ap (λ (g : ℕ → KeyByte). g k) (its-note (t .coming) j (t .parked (imageFrom image)))) is w
+    where
+      up : heldFor (m .parks) (imageFrom image) ≡ 0 → ⊥
+      up z =
+          taken-spent (m .parks) (imageFrom image) (imageNumber image) (good .long) (good .parks) h .given .some (sym (holds-told (m .parks) (imageFrom image) (imageNumber image) h) ∙ z)
 
-    parked-is : (p : Place) → Live parkedNow p → (k : ℕ) → bytesAt (noteCall t (did-park j image)) p k ≡ bytesAt t (parkedFrom p) k
-    parked-is (here i) h k = refl
-    parked-is (held i) h k = by (eqb j i)
-      where
-        by : (b : Bool) → pick b (t .coming j) (t .parked i) k ≡ bytesAt t (pick b (here j) (held i)) k
-        by true = refl
-        by false = refl
+      was : (p : Place) → (p ≡ here j → ⊥) → Live (withParks (withLine m j l) (taken (m .parks) (imageFrom image))) p → Live m p
+      was (here i) ne g = same-mode j i l (not-here j i ne) g
+      was (held i) ne g = λ z. g (by (ℕ-discrete i (imageFrom image)) z)
+        where
+          by : Dec (i ≡ imageFrom image) → heldFor (m .parks) i ≡ 0 → heldFor (taken (m .parks) (imageFrom image)) i ≡ 0
+          by (yes e) z = ap (heldFor (taken (m .parks) (imageFrom image))) e ∙ taken-none (m .parks) (imageFrom image)
+          by (no n) z = taken-other (m .parks) (imageFrom image) i n ∙ z
 
-    -- the line is not open
-    no-line : (i i' : ℕ) → getD (set (m .lines) j idle) i idle .mode ≡ 1 → (b : Bool) → here i ≡ pick b (here j) (held i') → ⊥
-    no-line i i' h true e = eqb-false j i (shut-line j idle below shut i h (eqb j i) refl) (sym (ap lineOfPlace e))
-    no-line i i' h false e = here-held i i' e
-
-    two-parks : (i i' : ℕ) (b b' : Bool) → eqb j i ≡ b → eqb j i' ≡ b' → pick b (here j) (held i) ≡ pick b' (here j) (held i') → held i ≡ held i'
-    two-parks i i' true true e e' z = ap held (sym (eqb-true j i e) ∙ eqb-true j i' e')
-    two-parks i i' true false e e' z = absurd (here-held j i' z)
-    two-parks i i' false true e e' z = absurd (here-held j i (sym z))
-    two-parks i i' false false e e' z = z
-
-    parked-one : (p q : Place) → Live parkedNow p → Live parkedNow q → parkedFrom p ≡ parkedFrom q → p ≡ q
-    parked-one (here i) (here i') h g e = e
-    parked-one (here i) (held i') h g e = absurd (no-line i i' h (eqb j i') e)
-    parked-one (held i) (here i') h g e = absurd (no-line i' i g (eqb j i) (sym e))
-    parked-one (held i) (held i') h g e = two-parks i i' (eqb j i) (eqb j i') refl refl e
-
-    park-apart : ApartAt parkedNow (noteCall t (did-park j image))
-    park-apart = moved-apart parkedFrom parked-was parked-is parked-one w
-
-  -- a resume that takes up what is held of line f
-  module _ (j : ℕ) (l : MLine) (image : List ℕ) (h : holds (m .parks) (imageFrom image) (imageNumber image) ≡ true) where
-    abbrev f : ℕ
-    f = imageFrom image
-
-    abbrev resumedNow : Machine
-    resumedNow = withParks (withLine m j l) (taken (m .parks) f)
-
-    -- the line's bytes are those that were parked
-    abbrev resumedFrom : Place → Place
-    resumedFrom (here i) = pick (eqb j i) (held f) (here i)
-    resumedFrom (held i) = held i
-
-    was-held : heldFor (m .parks) f ≡ 0 → ⊥
-    was-held z = taken-spent (m .parks) f (imageNumber image) (good .long) (good .parks) h .given .some (sym (holds-told (m .parks) f (imageNumber image) h) ∙ z)
-
-    not-from : (i : ℕ) → (heldFor (taken (m .parks) f) i ≡ 0 → ⊥) → i ≡ f → ⊥
-    not-from i g e = g (ap (heldFor (taken (m .parks) f)) e ∙ taken-none (m .parks) f)
-
-    resumed-was : (p : Place) → Live resumedNow p → Live m (resumedFrom p)
-    resumed-was (here i) g = by (eqb j i) refl
-      where
-        by : (b : Bool) → eqb j i ≡ b → Live m (pick b (held f) (here i))
-        by true e = was-held
-        by false e = sym (ap (λ (x : MLine). x .mode) (other-line (m .lines) j i l e)) ∙ g
-    resumed-was (held i) g = λ z. g (taken-other (m .parks) f i (not-from i g) ∙ z)
-
-    resumed-is : (p : Place) → Live resumedNow p → (k : ℕ) → bytesAt (noteCall t (did-resume j image)) p k ≡ bytesAt t (resumedFrom p) k
-    resumed-is (here i) g k = by (eqb j i)
-      where
-        by : (b : Bool) → pick b (t .parked f) (t .coming i) k ≡ bytesAt t (pick b (held f) (here i)) k
-        by true = refl
-        by false = refl
-    resumed-is (held i) g k = refl
-
-    no-park : (i i' : ℕ) → (heldFor (taken (m .parks) f) i' ≡ 0 → ⊥) → (b : Bool) → pick b (held f) (here i) ≡ held i' → ⊥
-    no-park i i' g true e = not-from i' g (sym (ap lineOfPlace e))
-    no-park i i' g false e = here-held i i' e
-
-    two-lines : (i i' : ℕ) (b b' : Bool) → eqb j i ≡ b → eqb j i' ≡ b' → pick b (held f) (here i) ≡ pick b' (held f) (here i') → here i ≡ here i'
-    two-lines i i' true true e e' z = ap here (sym (eqb-true j i e) ∙ eqb-true j i' e')
-    two-lines i i' true false e e' z = absurd (here-held i' f (sym z))
-    two-lines i i' false true e e' z = absurd (here-held i f z)
-    two-lines i i' false false e e' z = z
-
-    resumed-one : (p q : Place) → Live resumedNow p → Live resumedNow q → resumedFrom p ≡ resumedFrom q → p ≡ q
-    resumed-one (here i) (here i') g k e = two-lines i i' (eqb j i) (eqb j i') refl refl e
-    resumed-one (here i) (held i') g k e = absurd (no-park i i' k (eqb j i) e)
-    resumed-one (held i) (here i') g k e = absurd (no-park i' i g (eqb j i') (sym e))
-    resumed-one (held i) (held i') g k e = e
-
-    resume-apart : ApartAt resumedNow (noteCall t (did-resume j image))
-    resume-apart = moved-apart resumedFrom resumed-was resumed-is resumed-one w
+      is : (p : Place) → (p ≡ here j → ⊥) → (k : ℕ) → bytesAt (noteCall t (did-resume j image)) p k ≡ bytesAt t p k
+      is (here i) ne k = ap (λ (g : ℕ → KeyByte). g k) (other-note (t .coming) j i (t .parked (imageFrom image)) (not-here j i ne))
+      is (held i) ne k = refl
 
   -- a change, at a number of bytes on
   change-kind : (j p : ℕ) (o : Origin) → lineAt m j .mode ≡ 1 → (k : ℕ) → Kind (t .coming j) (lineAt m j .mode ≡ 1) (changedAt (t .coming j) p o) o (p - t .coming j 0 .position) k
@@ -379,9 +360,9 @@ module _ (m : Machine) (eight : length (m .lines) ≡ 8) (good : GoodCard m) (a 
   call-apart (refuse k) did-nothing was-refused _ n = w
   call-apart (put j l size) (did-open _ c key iv) (was-open s) _ n = begin-apart j 0 l _ _ n (first-kind j _)
   call-apart (crypt j k size) (did-crypt _ input output) (was-crypt s q) (fair-crypt up _ _) n = crypt-apart j _ input output up
-  call-apart (park j size) (did-park _ image) (was-park s up z r) _ n = park-apart j (s .below) up image
+  call-apart (park j size) (did-park _ image) (was-park s up z r) _ n = park-apart j image (s .below) up
   call-apart (resume j l k size) (did-resume _ image) (was-resume s h) _ n = resume-apart j l image h
-  call-apart (put j l size) (did-close _) (was-close s) _ n = close-apart j l (s .below) (λ z. omega (arith, z))
-  call-apart (put j l size) (did-load _ c key) (was-load s g k) _ n = close-apart j l (s .below) (λ z. omega (arith, z))
+  call-apart (put j l size) (did-close _) (was-close s) _ n = shut-apart j l (s .below) (λ z. omega (arith, z))
+  call-apart (put j l size) (did-load _ c key) (was-load s g k) _ n = shut-apart j l (s .below) (λ z. omega (arith, z))
   call-apart (start j iv size) (did-start _ _) (was-start s up) _ n = begin-apart j 0 _ _ _ n (first-kind j _)
   call-apart (change j p _ size) (did-change _ _ key iv) (was-change s up z le) _ n = begin-apart j _ _ _ _ n (change-kind j p (changeOrigin t j key iv) up)

@@ -9,7 +9,7 @@ use native.Mathlib.Omega.{arith}
 use lib.Dec.{eqb, ltb}
 use lib.ListN.{length, getD, set, length-append}
 use lib.Seq.{getD-set-same}
-use borrow.Author.Tests.{eqb-true, eqb-false, eq-eqb, ltb-true, ltb-false}
+use borrow.Author.Tests.{eqb-true, eqb-false, ltb-true, ltb-false}
 use Rattle.words.specs.Lists.{All, Byte}
 use Rattle.words.specs.Tests.{pick}
 use Rattle.ciphers.specs.Table.{cipherAt}
@@ -29,7 +29,7 @@ use Rattle.lists.proofs.Streams.{bare, Held, place-yes, place-no, place-begun, 
 use Rattle.lists.proofs.OneStream.{sized, loaded-starts}
 use Rattle.uses.specs.Uses.{Origin, KeyByte, valueOf, bytesFrom, changedAt, Notes, changeOrigin, startOrigin, forLine, noteCall, In}
 use Rattle.uses.proofs.Twice.{Either, in-first, in-second, either-in, only}
-use Rattle.uses.proofs.Apart.{taken-none, other-line, other-note}
+use Rattle.uses.proofs.Apart.{taken-none, other-line, its-note, other-note}
 
 -- ---- bytes to come and the streams of a log
 
@@ -216,12 +216,11 @@ module _ (m : Machine) (eight : length (m .lines) ≡ 8) (good : GoodCard m) (a 
       let number = number-back j k b word (shown l) z in
       let c = good .long .counts in
       let image = imageOf j k (shown l) in
-      let on-its-line : forLine j (t .coming j) (t .parked) (imageFrom image) ≡ t .coming j =
-      ap (forLine j (t .coming j) (t .parked)) from ∙ ap (λ (x : Bool). pick x (t .coming j) (t .parked j)) (eq-eqb j j refl) in
+      let its-own = ap (forLine j (t .coming j) (t .parked)) from ∙ its-note (t .parked) j (t .coming j) in
       record {
         given = subst (λ (i : ℕ). Given (parked (m .parks) j) i (imageNumber image)) (sym from) (subst (Given (parked (m .parks) j) j) (sym number) (now-given (m .parks) j (omega (arith, c, q))));
         goes-on =
-            λ _. subst (Follows (begun (based (imageLine image)))) (sym on-its-line)
+            λ _. subst (Follows (begun (based (imageLine image)))) (sym its-own)
             (goes-on-follows l (based (imageLine image)) (g j) (t .coming j) (held j) none (image-goes-on l (good-behind l h) z j k b word image refl) (w .lines j up));
       }
 
@@ -231,7 +230,9 @@ module _ (m : Machine) (eight : length (m .lines) ≡ 8) (good : GoodCard m) (a 
   call-link (refuse k) did-nothing was-refused _ f = w
   call-link (put j l size) (did-open _ c key iv) (was-open s) _ f =
       record {
-        lines = λ i. set-line j l 1 i (λ b. Follows (pick b (begun (opened c key iv)) (g i)) (pick b (bytesFrom (record { cipher = c; key = key; iv = iv })) (t .coming i))) s (λ _ _. opened-follows c key iv) (w .lines i);
+        lines =
+            λ i. set-line j l 1 i (λ b. Follows (pick b (begun (opened c key iv)) (g i)) (pick b (bytesFrom (record { cipher = c; key = key; iv = iv })) (t .coming i))) s
+            (λ _ _. opened-follows c key iv) (w .lines i);
         loads = λ i. set-line j l 2 i (λ b. Loaded (pick b (begun (opened c key iv)) (g i)) (t .load i)) s (λ _ z. absurd (omega (arith, z))) (w .loads i);
         images = w .images;
       }

@@ -70,7 +70,13 @@ notes-append (x ∷ xs) ys t = notes-append xs ys (noteCall t (did x))
 used-later : {before xs : List Made} {x : Made} → Stands before x xs → Grows (notesOf (before ++ (x ∷ [])) .used) (notesOf xs .used)
 used-later {before = before} {x = x} s =
     let g = grown (map did (s .after)) (notesOf (before ++ (x ∷ []))) .used in
-    record { more = g .more; is = ap (λ (l : List Made). notesOf l .used) (s .is ∙ sym (append-assoc before (x ∷ []) (s .after))) ∙ ap (λ (t : Notes). t .used) (notes-append (before ++ (x ∷ [])) (s .after) noNotes) ∙ g .is }
+    record {
+      more = g .more;
+      is =
+          ap (λ (l : List Made). notesOf l .used) (s .is ∙ sym (append-assoc before (x ∷ []) (s .after)))
+          ∙ ap (λ (t : Notes). t .used) (notes-append (before ++ (x ∷ [])) (s .after) noNotes)
+          ∙ g .is;
+    }
 
 -- ---- a fresh card
 
@@ -137,7 +143,8 @@ made l g f h w text =
 
 -- what a crypt writes
 written-along : (before : List Made) (x : Made) (after : List Made) (m : Machine) (c : Seen) (g : ℕ → Log) (t : Notes) → Reached m c g → Runs m (before ++ (x ∷ after)) → AllBytes (before ++ (x ∷ after)) →
-    UnalteredAfter t (map did (before ++ (x ∷ after))) → Link m g t → (i : ℕ) (input output : List ℕ) → did x ≡ did-crypt i input output → output ≡ xorFrom (λ k. valueOf (notesAfter t (map did before) .coming i k)) 0 input
+    UnalteredAfter t (map did (before ++ (x ∷ after))) → Link m g t → (i : ℕ) (input output : List ℕ) → did x ≡ did-crypt i input output →
+    output ≡ xorFrom (λ k. valueOf (notesAfter t (map did before) .coming i k)) 0 input
 unfolding step
 written-along [] x after m c g t r h b u w i input output dx =
     let k = crypted m (x .call) _ (did x) (explained-at m x (h .0)) (fair-step m (x .call) (b .0)) i input output dx in

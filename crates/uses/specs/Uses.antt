@@ -45,8 +45,8 @@ firstBytes (suc n) f = f zero ∷ firstBytes n (λ k. f (suc k))
 
 -- ---- notes
 
--- Of each line the cipher and the key of its last load, the bytes to come for it, and those that were to come when it was last parked; and the origins of the streams that were begun, the images that parks
--- wrote and the bytes that crypts used, the oldest first. What is noted of a line that is not loaded, open or parked is not read.
+-- Of each line the cipher and the key of its last load, the bytes to come for it, the next being byte 0, and those that were to come when it was last parked; and the origins of the streams that were
+-- begun, the images that parks wrote and the bytes that crypts used, the oldest first. What is noted of a line that is not loaded, open or parked is not read.
 pub record Notes : Type 0 where
   pub load : ℕ → Origin
   pub coming : ℕ → ℕ → KeyByte
@@ -76,7 +76,7 @@ changeOrigin t i key iv = let c = t .coming i 0 .origin .cipher in record { ciph
 abbrev pub startOrigin : Notes → (i : ℕ) (iv : List ℕ) → Origin
 startOrigin t i iv = record { cipher = t .load i .cipher; key = t .load i .key; iv = ivFor (t .load i .cipher) iv }
 
--- after a call
+-- After a call. A crypt uses as many of its line's bytes to come as it has bytes of input; a park keeps its line's, and a resume takes up those of the line that is in its image.
 abbrev pub noteCall : Notes → Did → Notes
 noteCall t did-nothing = t
 noteCall t (did-open i c key iv) = begins t i (bytesFrom (record { cipher = c; key = key; iv = iv })) (record { cipher = c; key = key; iv = iv })
@@ -131,16 +131,17 @@ Unaltered xs = UnalteredAfter noNotes (map did xs)
 
 -- ---- what is claimed
 
--- A crypt on line i: each byte of its output is the byte of its input XORed with the keystream byte that is noted for it, and those are the bytes that are noted.
+-- A crypt on line i: each byte of its output is that of its input XORed with one of the bytes to come for its line, in their order, and these are noted as used.
 pub record CryptUses (before : List Made) (x : Made) (i : ℕ) (input output : List ℕ) : Type 0 where
   pub written : output ≡ xorFrom (λ k. valueOf (notesOf before .coming i k)) 0 input
   pub noted : notesOf (before ++ (x ∷ [])) .used ≡ notesOf before .used ++ firstBytes (length input) (notesOf before .coming i)
 
 pub record KeystreamOnce (xs : List Made) : Type 0 where
+  -- every byte that a crypt made was XORed with the keystream byte that is noted for it
   pub crypts : {before : List Made} {x : Made} → Stands before x xs → (i : ℕ) (input output : List ℕ) → did x ≡ did-crypt i input output → CryptUses before x i input output
   -- no two of all the notes of the list have the same cipher, key, IV and position
   pub once : NoneTwice (notesOf xs .used)
-  -- said of two crypts: byte k of the first and byte l of the second were XORed with different bytes of keystreams
+  -- said of two crypts: byte k of the first and byte l of the second were not XORed with the same one
   pub no-two-crypts : {before sofar : List Made} {x y : Made} → Stands sofar y xs → Stands before x sofar → (i j : ℕ) (input output input' output' : List ℕ) →
       did x ≡ did-crypt i input output → did y ≡ did-crypt j input' output' → (k l : ℕ) → k < length input → l < length input' →
       notesOf before .coming i k ≡ notesOf sofar .coming j l → ⊥
