@@ -216,12 +216,9 @@ ApartAt m t = Apart (Live m) (bytesAt t) (t .begun) (t .used)
 pub other-line : (ls : List MLine) (j i : ℕ) (l : MLine) → eqb j i ≡ false → getD (set ls j l) i idle ≡ getD ls i idle
 other-line ls j i l e = getD-set-other ls j i l idle (λ z. eqb-false j i e (sym z))
 
--- what is noted of a line, and of another
+-- what is noted of a line
 pub its-note : {A : Type 0} (f : ℕ → A) (j : ℕ) (x : A) → forLine j x f j ≡ x
-its-note f j x = ap (λ (b : Bool). pick b x (f j)) (eq-eqb j j refl)
-
-pub other-note : {A : Type 0} (f : ℕ → A) (j i : ℕ) (x : A) → eqb j i ≡ false → forLine j x f i ≡ f i
-other-note f j i x e = ap (λ (b : Bool). pick b x (f i)) e
+its-note f j x = rw (eq-eqb j j refl) refl
 
 not-here : (j i : ℕ) → (here i ≡ here j → ⊥) → eqb j i ≡ false
 not-here j i ne = ne-eqb j i (λ e. ne (ap here (sym e)))
@@ -274,7 +271,7 @@ module _ (m : Machine) (eight : length (m .lines) ≡ 8) (good : GoodCard m) (a 
       was (held i) h ne = h
 
       is : (p : Place) → (p ≡ here j → ⊥) → (k : ℕ) → bytesAt (begins t j f o) p k ≡ bytesAt t p k
-      is (here i) ne k = ap (λ (g : ℕ → KeyByte). g k) (other-note (t .coming) j i f (not-here j i ne))
+      is (here i) ne k = rw (not-here j i ne) refl
       is (held i) ne k = refl
 
   -- a crypt
@@ -315,7 +312,7 @@ module _ (m : Machine) (eight : length (m .lines) ≡ 8) (good : GoodCard m) (a 
 
       is : (p : Place) → (p ≡ held j → ⊥) → (k : ℕ) → bytesAt (noteCall t (did-park j image)) p k ≡ bytesAt t p k
       is (here i) ne k = refl
-      is (held i) ne k = ap (λ (g : ℕ → KeyByte). g k) (other-note (t .parked) j i (t .coming j) (not-held j i ne))
+      is (held i) ne k = rw (not-held j i ne) refl
 
   -- a resume: those of the park are its line's
   resume-apart : (j : ℕ) (l : MLine) (image : List ℕ) → holds (m .parks) (imageFrom image) (imageNumber image) ≡ true →
@@ -337,7 +334,7 @@ module _ (m : Machine) (eight : length (m .lines) ≡ 8) (good : GoodCard m) (a 
           by (no n) z = taken-other (m .parks) (imageFrom image) i n ∙ z
 
       is : (p : Place) → (p ≡ here j → ⊥) → (k : ℕ) → bytesAt (noteCall t (did-resume j image)) p k ≡ bytesAt t p k
-      is (here i) ne k = ap (λ (g : ℕ → KeyByte). g k) (other-note (t .coming) j i (t .parked (imageFrom image)) (not-here j i ne))
+      is (here i) ne k = rw (not-here j i ne) refl
       is (held i) ne k = refl
 
   -- a change, at a number of bytes on

@@ -29,7 +29,7 @@ use Rattle.lists.proofs.Streams.{bare, Held, place-yes, place-no, place-begun, 
 use Rattle.lists.proofs.OneStream.{sized, loaded-starts}
 use Rattle.uses.specs.Uses.{Origin, KeyByte, valueOf, bytesFrom, changedAt, Notes, changeOrigin, startOrigin, forLine, noteCall, In}
 use Rattle.uses.proofs.Twice.{Either, in-first, in-second, either-in, only}
-use Rattle.uses.proofs.Apart.{taken-none, other-line, its-note, other-note}
+use Rattle.uses.proofs.Apart.{taken-none, other-line, its-note}
 
 -- ---- bytes to come and the streams of a log
 
@@ -155,8 +155,7 @@ parked-image p j f noted image below w = by (eqb j (imageFrom image)) refl
         record {
           given = given;
           goes-on =
-              λ z. subst (Follows (begun (based (imageLine image)))) (sym (other-note noted j (imageFrom image) f e))
-              (w .goes-on (sym (parked-other p j (imageFrom image) (λ q. eqb-false j (imageFrom image) e (sym q))) ∙ z));
+              λ z. rw e (w .goes-on (sym (parked-other p j (imageFrom image) (λ q. eqb-false j (imageFrom image) e (sym q))) ∙ z));
         }
 
 -- a resume spends the number that it takes up
