@@ -4,8 +4,9 @@
  * A card can be copied, saved to a file and loaded again on a machine with the same byte order. A damaged card is refused (code 255), but a change that leaves a valid card
  * is not detected.
  *
- * A parked call can be resumed once. A park writes its number into the image, and the card holds that number until an image with it is resumed or the same line is parked
- * again; no other command changes it. So an image can be resumed on the card that parked it, on any idle line, and is refused from then on (code 14). The
+ * A parked call can be resumed once. The card counts the parks of each line by itself. A park writes its line and its number among the line's parks into the image, and the
+ * card holds that number for the line until an image with this line and number is resumed or the line is parked again; no other command changes it. So an image can be resumed
+ * on the card that parked it, on any idle line, and is refused from then on (code 14). Two lines may hold the same number: each is resumed by its own image. The
  * numbers are in the card: continue with only one of a card and its copies, or an image could be resumed on each.
  *
  * A line cannot be opened or loaded with a blank key: one that is all zero in the cipher's own length, in the command or in the tray, is refused (code 16).
@@ -38,10 +39,11 @@ extern "C" {
 #endif
 
 /* The words of a card. */
-#define PIPESHEAR_CARD 665
+#define PIPESHEAR_CARD 672
 
-/* The bytes of a parked line's image: the cipher's number, the position in eight bytes, the park's number in four, and the state, with zeros after a shorter one. */
-#define PIPESHEAR_IMAGE 165
+/* The bytes of a parked line's image: the cipher's number, the position in eight bytes, the line that was parked, the park's number in four bytes, and the state, with zeros
+ * after a shorter one. */
+#define PIPESHEAR_IMAGE 166
 
 /* One call: the first command in `command` is run on `card`.
  *
@@ -61,8 +63,8 @@ extern "C" {
  *     2  first byte not 01 to 09                 11  data shorter than the count
  *     3  line over 7                             12  out shorter than the count, or than an image for a park
  *     4  cipher not 1 to 6                       13  position after the crypt over 2^36
- *     5  open, load or resume on an open or      14  park number not held
- *        loaded line                             15  no park number left: 4,294,967,295 parks have been made
+ *     5  open, load or resume on an open or      14  park number not held for the line in the image
+ *        loaded line                             15  no park number left: the line has made 4,294,967,295 parks
  *     6  crypt, park or change on a line that    16  key all zero
  *        is not open, or close on an idle line   17  change or park while a change is waiting on the line
  *     7  a key or IV byte beyond the cipher's    18  change position below the line's position, or above 2^36

@@ -26,7 +26,7 @@ pub struct Counts {
 
 impl Card {
     /// The words of a card.
-    pub const WORDS: usize = 665;
+    pub const WORDS: usize = 672;
 
     /// A fresh card, with all lines idle and no park made.
     pub const fn new() -> Card {
@@ -148,8 +148,8 @@ mod tests {
             let (mut card, mut out) = (Card::from_words(damaged), [7; 5]);
             match card.call(&command::crypt(4, 5), &[], &[1; 5], &mut out) {
                 Err(refusal) => assert_eq!((refusal.code(), card.words(), out), (255, &damaged, [7; 5])),
-                // Line 4 may be at byte 17 as well, and 17 parks may have been made.
-                Ok(_) => assert!([4 * 82 + 3, 8 * 82].contains(&place)),
+                // Line 4 may be at byte 17 as well, and 17 parks may have been made from any line.
+                Ok(_) => assert!(place == 4 * 82 + 3 || (656..664).contains(&place)),
             }
         }
     }
@@ -165,6 +165,33 @@ mod tests {
             let refusal = other.call(&command::resume(1, &image), &[], &[], &mut []).unwrap_err();
             assert_eq!((refusal.code(), other), (14, before));
         }
+    }
+
+    #[test]
+    fn two_lines_hold_the_same_number() {
+        let (mut card, mut one, mut other) = (opened(), [0; IMAGE], [0; IMAGE]);
+        card.call(&command::open_own(6, Cipher::Rabbit, &key(16), &[0; 16]), &[], &[], &mut []).unwrap();
+        card.call(&command::park(6), &[], &[], &mut other).unwrap();
+        card.call(&command::park(4), &[], &[], &mut one).unwrap();
+        assert_eq!((&one[9..14], &other[9..14]), (&[4, 0, 0, 0, 1][..], &[6, 0, 0, 0, 1][..]));
+        card.call(&command::resume(6, &one), &[], &[], &mut []).unwrap();
+        card.call(&command::resume(4, &other), &[], &[], &mut []).unwrap();
+        for image in [one, other] {
+            assert_eq!(card.call(&command::resume(0, &image), &[], &[], &mut []).unwrap_err().code(), 14);
+        }
+        one[9] = 8;
+        assert_eq!(card.call(&command::resume(0, &one), &[], &[], &mut []).unwrap_err().code(), 8);
+    }
+
+    #[test]
+    fn a_line_has_numbers_left_while_another_has_none() {
+        let mut words = *opened().words();
+        words[656 + 4] = u32::MAX;
+        let mut card = Card::from_words(words);
+        card.call(&command::open_own(5, Cipher::Zuc, &key(16), &[0; 16]), &[], &[], &mut []).unwrap();
+        assert_eq!(card.call(&command::park(4), &[], &[], &mut [0; IMAGE]).unwrap_err().code(), 15);
+        card.call(&command::park(5), &[], &[], &mut [0; IMAGE]).unwrap();
+        assert_eq!((card.words()[656 + 5], card.words()[664 + 5]), (1, 1));
     }
 
     #[test]

@@ -35,15 +35,15 @@ pub fn crypt(line: u8, count: u16) -> [u8; 4] {
     [0x03, line, high, low]
 }
 
-/// Writes an open line's image to the start of out and makes the line idle. The image contains the park's number,
-/// which the card holds in place of the number that was last parked from this line. A line on which a change of key is
-/// waiting cannot be parked: the park is refused with code 17.
+/// Writes an open line's image to the start of out and makes the line idle. The image contains the line and the number
+/// of this park among the line's own, which the card holds in place of the number that was last parked from this line. A
+/// line on which a change of key is waiting cannot be parked: the park is refused with code 17.
 pub fn park(line: u8) -> [u8; 2] {
     [0x04, line]
 }
 
 /// Opens an idle line from an image, at the byte where the parked line stopped. The card must hold the image's park
-/// number, and the resume uses it up: an image can be resumed once.
+/// number for the line in the image, whatever line resumes, and the resume uses it up: an image can be resumed once.
 pub fn resume(line: u8, image: &[u8; IMAGE]) -> [u8; 2 + IMAGE] {
     let mut bytes = [0; 2 + IMAGE];
     bytes[..2].copy_from_slice(&[0x05, line]);
@@ -120,19 +120,19 @@ mod tests {
         assert_eq!(counts(&mut card, &close(3), &mut out), (2, 0, 0));
         assert_eq!(counts(&mut card, &load(3, Cipher::Rabbit, 0), &mut out), (4, 0, 0));
         assert_eq!(counts(&mut card, &close(3), &mut out), (2, 0, 0));
-        // All lines are idle and no number is held; one park was made.
+        // All lines are idle and no number is held; one park was made, from line 7.
         let mut words = *card.words();
-        assert_eq!(std::mem::take(&mut words[8 * 82]), 1);
+        assert_eq!(std::mem::take(&mut words[656 + 7]), 1);
         assert_eq!(Card::from_words(words), Card::new());
     }
 
     #[test]
-    fn an_image_has_the_number_of_its_park() {
+    fn an_image_has_the_line_and_the_number_of_its_park() {
         let (mut card, mut out) = (Card::new(), [0; IMAGE]);
-        for number in 1..=3 {
-            counts(&mut card, &open_tray(7, Cipher::Mugi, 0, &[9; IV]), &mut out);
-            counts(&mut card, &park(7), &mut out);
-            assert_eq!(out[9..13], [0, 0, 0, number]);
+        for (line, number) in [(7, 1), (7, 2), (0, 1), (7, 3), (3, 1), (0, 2)] {
+            counts(&mut card, &open_tray(line, Cipher::Mugi, 0, &[9; IV]), &mut out);
+            counts(&mut card, &park(line), &mut out);
+            assert_eq!(out[9..14], [line, 0, 0, 0, number]);
         }
     }
 
@@ -144,7 +144,7 @@ mod tests {
         assert_eq!(open_own(6, Cipher::Rabbit, &key, &iv)[34..36], [0xAA, 0xBB]);
         assert_eq!(crypt(6, 0x1234), [3, 6, 0x12, 0x34]);
         assert_eq!(resume(6, &[0xCC; IMAGE])[..3], [5, 6, 0xCC]);
-        assert_eq!(resume(6, &[0xCC; IMAGE]).len(), 167);
+        assert_eq!(resume(6, &[0xCC; IMAGE]).len(), 168);
         let change = change_key(6, 255, &iv, 0x0102_0304_0506_0708);
         assert_eq!(change[..4], [7, 6, 255, 0xBB]);
         assert_eq!(change[18..], [0xBB, 1, 2, 3, 4, 5, 6, 7, 8]);

@@ -21,7 +21,7 @@
 //! ```
 //!
 //! A call is parked and continues, on another line, from the byte where it stopped. Its image can be resumed on the
-//! card that parked it, once:
+//! card that parked it, once. Each line numbers its own parks, so that a busy line uses up no other's numbers:
 //!
 //! ```
 //! use pipeshear::{command, Card, Cipher, IMAGE};
@@ -44,7 +44,7 @@
 //! assert_eq!([&first[..], &second].concat(), all);
 //!
 //! let again = card.call(&command::resume(6, &image), &[], &[], &mut []).unwrap_err();
-//! assert_eq!(again.to_string(), "park number not held (code 14)");
+//! assert_eq!(again.to_string(), "park number not held for the line in the image (code 14)");
 //! # Ok::<(), pipeshear::Refusal>(())
 //! ```
 //!
@@ -119,6 +119,6 @@ pub use cipher::Cipher;
 pub use raw::raw_call;
 pub use refusal::Refusal;
 
-/// The bytes of a parked line's image: the cipher's number, the position in eight bytes, the park's number in four, and
-/// the state, with zeros after a shorter one.
-pub const IMAGE: usize = 165;
+/// The bytes of a parked line's image: the cipher's number, the position in eight bytes, the line that was parked, the
+/// park's number in four bytes, and the state, with zeros after a shorter one.
+pub const IMAGE: usize = 166;

@@ -122,9 +122,9 @@ impl Builder {
         self.ledger.all()
     }
 
-    /// How many parks were made.
-    pub fn parks(&self) -> u32 {
-        self.machine.parks().made()
+    /// How many parks were made from a line.
+    pub fn parks(&self, line: u8) -> u32 {
+        self.machine.parks().made()[usize::from(line)]
     }
 
     /// The files of the list as it stands.

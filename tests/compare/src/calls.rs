@@ -211,8 +211,8 @@ mod tests {
     #[test]
     fn the_machine_agrees_with_itself_and_meets_every_code() {
         let tally = held(Machine::fresh()).unwrap();
-        let counts = tally.codes.iter().chain(&tally.resumes).chain(&tally.changes).chain(&tally.loads);
-        assert!(counts.into_iter().all(|&count| count > 0), "{tally:?}");
+        let counts = tally.codes.iter().chain(&tally.parks).chain(&tally.resumes);
+        assert!(counts.chain(&tally.changes).chain(&tally.loads).all(|&count| count > 0), "{tally:?}");
     }
 
     #[test]
@@ -229,8 +229,9 @@ mod tests {
     fn a_word_left_behind_is_found() {
         let places = [
             (words::COUNT - 1, "word 81 of line 7"),
-            (words::COUNT, "the count of parks"),
-            (words::CARD - 1, "the number held for line 7"),
+            (words::COUNT, "the count of parks of line 0"),
+            (words::HELD - 1, "the count of parks of line 7"),
+            (words::CARD - 1, "the number held of line 7"),
         ];
         for (word, place) in places {
             let card = Faulty { machine: Machine::fresh(), fault: |_, _, _| (), word: Some(word) };

@@ -1,12 +1,12 @@
 //! The worked cases, edges and example of document 01, checked of the second implementation before it is used; the
-//! edges of park are those of an image of 165 bytes, and edges of the parks' numbers, of keys, of changes of key and of loads
-//! stand beside them.
+//! edges of park are those of an image of 166 bytes, and edges of the parks' lines and numbers, of keys, of changes of key
+//! and of loads stand beside them.
 
 use crate::cipher::LAST;
-use crate::command::{self, numbered, padded, IMAGE, IV, RECORD};
-use crate::images::image;
+use crate::command::{self, of_park, padded, Park, IMAGE, IV, RECORD};
+use crate::images::{image, NO_PARK};
 use crate::machine::{Answer, Machine, END};
-use crate::parks::Parks;
+use crate::parks::{Parks, MOST};
 use crate::program::{self, Files};
 use crate::{aes, hex, rabbit, snow2, zuc};
 
@@ -51,7 +51,7 @@ fn values() -> Vec<(&'static str, bool)> {
 /// The edges, and the acceptances beside them.
 fn edges() -> Vec<(&'static str, bool)> {
     let opened = |tray: usize| code(&[], &command::open_tray(0, 4, 0, &[0; 16]), tray, 0, 0);
-    let last = [open(0), command::park(0), command::resume(0, &image(3, END - 1, 1, &[]))];
+    let last = [open(0), command::park(0), command::resume(0, &image(3, END - 1, (0, 1), &[]))];
     let own = [open(7)];
     vec![
         ("n = 2^36 - 1 with count 1 is accepted", code(&last, &command::crypt(0, 1), 0, 9, 9) == 0),
@@ -59,30 +59,42 @@ fn edges() -> Vec<(&'static str, bool)> {
         ("a tray of 8,192 passes", opened(8_192) == 0),
         ("a tray of 8,224 is 9", opened(8_224) == 9),
         ("an empty tray is 10", opened(0) == 10),
-        ("out of 164 bytes for park is 12", code(&own, &command::park(7), 0, 0, 164) == 12),
-        ("out of 165 bytes for park is enough", code(&own, &command::park(7), 0, 0, 165) == 0),
+        ("out of 165 bytes for park is 12", code(&own, &command::park(7), 0, 0, 165) == 12),
+        ("out of 166 bytes for park is enough", code(&own, &command::park(7), 0, 0, 166) == 0),
         ("count 0 needs neither data nor out", code(&own, &command::crypt(7, 0), 0, 0, 0) == 0),
         ("an empty command is 1", code(&[], &[], 0, 0, 0) == 1),
         ("an unknown command is 2 though it is short", code(&[], &[10], 0, 0, 0) == 2),
     ]
 }
 
-/// The edges of the parks' numbers.
+/// The edges of the parks' lines and numbers.
 fn numbers() -> Vec<(&'static str, bool)> {
-    let some = image(3, 5, 0, &[9; 72]);
-    let resume = |before: &[Vec<u8>], number: u32| code(before, &command::resume(2, &numbered(&some, number)), 0, 0, 0);
+    let some = image(3, 5, NO_PARK, &[9; 72]);
+    let resume = |before: &[Vec<u8>], park: Park| code(before, &command::resume(2, &of_park(&some, park)), 0, 0, 0);
     let once = [open(1), command::park(1)];
     let twice = [once.clone(), once.clone()].concat();
-    let taken = [&once[..], &[command::resume(1, &numbered(&some, 1))]].concat();
+    let both = [&twice[..], &[open(6), command::park(6)]].concat();
+    let taken = [&once[..], &[command::resume(1, &of_park(&some, (1, 1)))]].concat();
+    let one_taken = [&both[..], &[command::resume(1, &of_park(&some, (1, 2)))]].concat();
     vec![
-        ("number 0 is 14", resume(&once, 0) == 14),
-        ("a number that wasn't parked is 14", resume(&[], 1) == 14 && resume(&once, 2) == 14),
-        ("the number of a park is taken", resume(&once, 1) == 0),
-        ("a number that was taken up is 14", resume(&taken, 1) == 14),
-        ("a number that was replaced is 14", resume(&twice, 1) == 14),
-        ("the number that replaced it is taken", resume(&twice, 2) == 0),
-        ("after 4,294,967,294 parks one is accepted", park_after(u32::MAX - 1) == 0),
-        ("after 4,294,967,295 parks one is 15", park_after(u32::MAX) == 15),
+        ("number 0 is 14", resume(&once, (1, 0)) == 14),
+        ("a number that wasn't parked is 14", resume(&[], (1, 1)) == 14 && resume(&once, (1, 2)) == 14),
+        ("the number of a park is taken", resume(&once, (1, 1)) == 0),
+        ("a number that was taken up is 14", resume(&taken, (1, 1)) == 14),
+        ("a number that was replaced is 14", resume(&twice, (1, 1)) == 14),
+        ("the number that replaced it is taken", resume(&twice, (1, 2)) == 0),
+        ("each line counts from 1", resume(&both, (1, 2)) == 0 && resume(&both, (6, 1)) == 0),
+        ("a line with another's number is 14", resume(&both, (1, 1)) == 14 && resume(&both, (6, 2)) == 14),
+        ("another line's park is left by a resume", resume(&one_taken, (6, 1)) == 0),
+        ("a line that wasn't parked is 14", resume(&both, (2, 1)) == 14 && resume(&both, (7, 2)) == 14),
+        ("a parking line of 8 is 8", resume(&both, (8, 1)) == 8 && resume(&both, (8, 0)) == 8),
+        ("a parking line of 255 is 8", resume(&both, (255, 1)) == 8),
+        ("after 4,294,967,294 parks of a line one is accepted", parks_after(MOST - 1, 0) == [0, 0]),
+        (
+            "after 4,294,967,295 parks of a line one is 15, and one of another is accepted",
+            parks_after(MOST, 0) == [15, 0],
+        ),
+        ("after as many of every other line one is accepted", parks_after(0, MOST) == [0, 15]),
     ]
 }
 
@@ -108,7 +120,7 @@ fn keys() -> Vec<(&'static str, bool)> {
 fn changes() -> Vec<(&'static str, bool)> {
     let change = |position: u64| command::change_key(0, 0, &[5; IV], position);
     let nine = [command::open_own(0, 4, &[3; RECORD], &[0; IV]), command::crypt(0, 9)];
-    let far = |position: u64| [open(0), command::park(0), command::resume(0, &image(4, position, 1, &[]))];
+    let far = |position: u64| [open(0), command::park(0), command::resume(0, &image(4, position, (0, 1), &[]))];
     let after =
         |before: &[Vec<u8>], more: &[Vec<u8>], last: &[u8]| code(&[before, more].concat(), last, RECORD, 99, IMAGE);
     let (park, crypt) = (command::park(0), |count: u16| command::crypt(0, count));
@@ -142,7 +154,8 @@ fn loads() -> Vec<(&'static str, bool)> {
     let rabbit = [command::open_own(0, 2, &padded(&[1], RECORD), &[0; IV])];
     let after = |before: &[Vec<u8>], last: &[u8]| code(before, last, RECORD, 9, IMAGE);
     let all = |codes: &[u8], wanted: u8| codes.iter().all(|&code| code == wanted);
-    let opens = [command::open_tray(0, 4, 0, &[0; IV]), open(0), command::resume(0, &image(4, 0, 0, &[])), load(4)];
+    let opens =
+        [command::open_tray(0, 4, 0, &[0; IV]), open(0), command::resume(0, &image(4, 0, NO_PARK, &[])), load(4)];
     let others = [command::crypt(0, 0), command::park(0), command::change_key(0, 0, &[0; IV], 0)];
     vec![
         ("a load is accepted", after(&[], &load(4)) == 0),
@@ -168,11 +181,15 @@ fn open(line: u8) -> Vec<u8> {
     command::open_own(line, 2, &padded(&[1], RECORD), &[0; 16])
 }
 
-/// The code of a park on a machine that has made so many.
-fn park_after(made: u32) -> u8 {
-    let mut machine = Machine::with(Parks::of(made, [0; 8]).unwrap_or_default());
-    machine.call(&open(6), &[], &[], &mut []);
-    machine.call(&command::park(6), &[], &[], &mut [0; IMAGE]).code
+/// The codes of a park from line 6 and of one from line 5, on a machine that has made so many from line 6 and so many from
+/// each other line.
+fn parks_after(made: u32, others: u32) -> [u8; 2] {
+    let counts = [others, others, others, others, others, others, made, others];
+    let mut machine = Machine::with(Parks::of(counts, [0; 8]).unwrap_or_default());
+    [6, 5].map(|line| {
+        machine.call(&open(line), &[], &[], &mut []);
+        machine.call(&command::park(line), &[], &[], &mut [0; IMAGE]).code
+    })
 }
 
 /// The code of a command after others on a fresh machine, with ones in the tray and zeros in data and out of the lengths
@@ -208,6 +225,6 @@ mod tests {
 
     #[test]
     fn cases_hold() {
-        assert_eq!(check(), Ok(73));
+        assert_eq!(check(), Ok(80));
     }
 }

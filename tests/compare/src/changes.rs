@@ -115,7 +115,7 @@ mod tests {
 
     /// A machine that holds number 1, and its lines as they are noted.
     fn pair() -> (Machine, Changes) {
-        (Machine::with(Parks::of(1, [1, 0, 0, 0, 0, 0, 0, 0]).unwrap()), Changes::default())
+        (Machine::with(Parks::of([1; 8], [1; 8]).unwrap()), Changes::default())
     }
 
     /// Makes a call; checks that what is noted is what the machine has.
@@ -144,7 +144,7 @@ mod tests {
         assert_eq!(told(crypt(2, 1)), (0, Some(Change::AtTheEnd)));
         assert_eq!([change(7), crypt(2, 8)].map(&mut told), [(0, None), (0, Some(Change::Within))]);
         assert_eq!([change(END), close(2)].map(&mut told), [(0, None), (0, Some(Change::Dropped))]);
-        assert_eq!(told(resume(2, &image(4, END - 3, 1, &[]))), (0, None));
+        assert_eq!(told(resume(2, &image(4, END - 3, (0, 1), &[]))), (0, None));
         assert_eq!([change(END), crypt(2, 4)].map(&mut told), [(0, None), (0, Some(Change::PastTheEnd))]);
         assert_eq!([park(2), close(2)].map(&mut told), [(0, None), (6, None)]);
     }

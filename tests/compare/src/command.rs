@@ -10,9 +10,10 @@ pub const CHANGE_KEY: u8 = 7;
 pub const LOAD: u8 = 8;
 pub const START: u8 = 9;
 
-/// The length of an image, and where the number of its park and the state begin in it.
-pub const IMAGE: usize = 165;
-pub const NUMBER_AT: usize = 9;
+/// The length of an image, and where the line that parked it, the number of its park and the state stand in it.
+pub const IMAGE: usize = 166;
+pub const LINE_AT: usize = 9;
+pub const NUMBER_AT: usize = LINE_AT + 1;
 pub const STATE_AT: usize = NUMBER_AT + 4;
 
 /// The length of a tray record, and of the key in command 02.
@@ -95,14 +96,28 @@ fn eight_bytes(bytes: &[u8]) -> u64 {
     bytes[..8].iter().fold(0, |number, &byte| (number << 8) | u64::from(byte))
 }
 
-/// The number of the park that an image is from.
-pub fn park_number(image: &[u8]) -> u32 {
-    image[NUMBER_AT..STATE_AT].iter().fold(0, |number, &byte| (number << 8) | u32::from(byte))
+/// A park: the line, and the number that the park has among those of the line.
+pub type Park = (u8, u32);
+
+/// The park that an image is from.
+pub fn park_of(image: &[u8]) -> Park {
+    let number = image[NUMBER_AT..STATE_AT].iter().fold(0, |number, &byte| (number << 8) | u32::from(byte));
+    (image[LINE_AT], number)
+}
+
+/// The image as one of another park.
+pub fn of_park(image: &[u8], (line, number): Park) -> Vec<u8> {
+    [&image[..LINE_AT], &[line], &number.to_be_bytes(), &image[STATE_AT..]].concat()
 }
 
 /// The image with another number.
 pub fn numbered(image: &[u8], number: u32) -> Vec<u8> {
-    [&image[..NUMBER_AT], &number.to_be_bytes(), &image[STATE_AT..]].concat()
+    of_park(image, (image[LINE_AT], number))
+}
+
+/// The image with another line.
+pub fn from_line(image: &[u8], line: u8) -> Vec<u8> {
+    of_park(image, (line, park_of(image).1))
 }
 
 /// `bytes`, then zeros up to `length`.

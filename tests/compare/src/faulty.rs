@@ -2,7 +2,7 @@
 
 use crate::builder::Builder;
 use crate::cipher::LAST;
-use crate::command::{self, numbered, park_number, RECORD};
+use crate::command::{self, of_park, park_of, RECORD};
 use crate::command::{CHANGE_KEY, CRYPT, LOAD, OPEN_OWN, OPEN_TRAY, PARK, RESUME, START};
 use crate::plan::Plan;
 use crate::{changing, images, plain, spent, trays};
@@ -34,14 +34,14 @@ pub fn command(b: &mut Builder, plan: &Plan, line: u8) -> Vec<u8> {
     command
 }
 
-/// An image: with fault 14 one whose number isn't held, else one whose number is; with fault 8 a bad one with that
-/// number.
+/// An image: with fault 14 one of a park that isn't held, else one of a park that is; with fault 8 a bad one of that
+/// park.
 fn image(b: &mut Builder, plan: &Plan) -> Vec<u8> {
     let image = if plan.has(14) { spent::image(b, plan.way) } else { plain::held_image(b) };
     if plan.has(8) {
-        numbered(&images::bad(&mut b.random, plan.image), park_number(&image))
+        images::bad(&mut b.random, plan.image, park_of(&image))
     } else if !plan.has(14) && b.random.chance(50) {
-        numbered(&images::elsewhere(&mut b.random), park_number(&image))
+        of_park(&images::elsewhere(&mut b.random), park_of(&image))
     } else {
         image
     }

@@ -1,16 +1,20 @@
 //! Images that no park of the list has written: well-formed ones at chosen positions, and ones that number 8
-//! refuses. All but `image` give them with number 0, in whose place a caller puts the one that is wanted.
+//! refuses. The well-formed ones, but those of `image`, are of no park: line 0 and number 0, in whose place a caller puts
+//! the park that is wanted.
 
 use crate::cipher::{by_number, LAST};
-use crate::command::{padded, IMAGE, STATE_AT};
+use crate::command::{of_park, padded, Park, IMAGE, LINE_AT, STATE_AT};
 use crate::machine::END;
 use crate::random::Random;
 use crate::{zeros, zuc};
 
 /// An image of its parts, with zeros after the state.
-pub fn image(cipher: u8, position: u64, number: u32, state: &[u8]) -> Vec<u8> {
-    padded(&[&[cipher], &position.to_be_bytes()[..], &number.to_be_bytes(), state].concat(), IMAGE)
+pub fn image(cipher: u8, position: u64, (line, number): Park, state: &[u8]) -> Vec<u8> {
+    padded(&[&[cipher], &position.to_be_bytes()[..], &[line], &number.to_be_bytes(), state].concat(), IMAGE)
 }
+
+/// No park: no image with it is taken up.
+pub const NO_PARK: Park = (0, 0);
 
 /// A well-formed image of any cipher, mostly at a position where something can go wrong.
 pub fn elsewhere(random: &mut Random) -> Vec<u8> {
@@ -80,11 +84,22 @@ fn mend_cells(random: &mut Random, state: &mut [u8]) {
 }
 
 /// How many reasons number 8 has to refuse an image, as told apart here.
-pub const FAULTS: usize = 14;
+pub const FAULTS: usize = 17;
 
-/// An image that number 8 refuses, for the reason `index` counted round: the cipher's number, the position, the
-/// bytes after the state, a ZUC cell or Rabbit's carry. The next time round the place of the fault is another.
-pub fn bad(random: &mut Random, index: usize) -> Vec<u8> {
+/// An image of a park that number 8 refuses, for the reason `index` counted round: the cipher's number, the position, the
+/// bytes after the state, a ZUC cell, Rabbit's carry or the line. The next time round the place of the fault is another.
+pub fn bad(random: &mut Random, index: usize, park: Park) -> Vec<u8> {
+    let line = match index % FAULTS {
+        14 => 8,
+        15 => park.0 + 8 * random.between(1, 31) as u8,
+        16 => random.between(8, 255) as u8,
+        _ => return of_park(&bad_contents(random, index), park),
+    };
+    with(of_park(&elsewhere(random), park), LINE_AT, line)
+}
+
+/// One for any reason but the line.
+fn bad_contents(random: &mut Random, index: usize) -> Vec<u8> {
     let (position, which) = (position(random), index / FAULTS);
     let any = random.between(u64::from(LAST) + 2, 255) as u8;
     match index % FAULTS {
@@ -121,7 +136,7 @@ fn with(mut image: Vec<u8>, place: usize, byte: u8) -> Vec<u8> {
 /// A well-formed image of one cipher.
 pub fn known(random: &mut Random, cipher: u8, position: u64) -> Vec<u8> {
     let state = state(random, cipher);
-    image(cipher, position, 0, &state)
+    image(cipher, position, NO_PARK, &state)
 }
 
 /// A byte other than 0 after the state. MUGI's state leaves no room for one.
@@ -144,23 +159,23 @@ fn bad_cell(random: &mut Random, position: u64, which: usize, cell: u32) -> Vec<
 #[cfg(test)]
 mod tests {
     use super::*;
-    use crate::command::{numbered, resume};
+    use crate::command::resume;
     use crate::machine::Machine;
     use crate::parks::Parks;
 
-    /// The code of a resume with this number on a card that holds number 7.
-    fn code(image: &[u8], number: u32) -> u8 {
-        let mut machine = Machine::with(Parks::of(7, [0, 7, 0, 0, 0, 0, 0, 0]).unwrap());
-        machine.call(&resume(3, &numbered(image, number)), &[], &[], &mut []).code
+    /// The code of a resume on a card that holds number 7 of line 1.
+    fn code(image: &[u8]) -> u8 {
+        let mut machine = Machine::with(Parks::of([9; 8], [0, 7, 0, 0, 0, 0, 0, 0]).unwrap());
+        machine.call(&resume(3, image), &[], &[], &mut []).code
     }
 
     #[test]
     fn images_are_taken_and_bad_ones_refused() {
         let mut random = Random::new(1, 1);
-        for index in 0..500 {
-            let (good, bad) = (elsewhere(&mut random), bad(&mut random, index));
-            assert_eq!([7, 0].map(|number| code(&good, number)), [0, 14]);
-            assert_eq!([7, 0].map(|number| code(&bad, number)), [8, 8]);
+        for index in 0..600 {
+            let good = elsewhere(&mut random);
+            assert_eq!([(1, 7), (1, 0), (2, 7)].map(|park| code(&of_park(&good, park))), [0, 14, 14]);
+            assert_eq!([(1, 7), (1, 0)].map(|park| code(&bad(&mut random, index, park))), [8, 8]);
         }
     }
 }

@@ -2,7 +2,7 @@
 //! one does. Every keystream byte is found by stepping from the base; nothing else is kept.
 
 use crate::cipher::{by_number, Cipher, State};
-use crate::command::{self, IMAGE};
+use crate::command::{self, Park, IMAGE};
 
 /// No keystream byte has a number of 2^36 or more.
 pub const END: u64 = 1 << 36;
@@ -30,7 +30,7 @@ impl Line {
         Line { cipher, base: start, base_unit: 0, position: 0, waiting: None }
     }
 
-    /// The line of the image that stands first in `bytes`, whatever its number; nothing where number 8 applies.
+    /// The line of the image that stands first in `bytes`, whatever park it is of; nothing where number 8 applies.
     pub fn from_image(bytes: &[u8]) -> Option<Line> {
         let image = &bytes[..IMAGE];
         let cipher = by_number(image[0])?;
@@ -38,15 +38,16 @@ impl Line {
         let position = command::image_position(image);
         let (state, padding) = image[command::STATE_AT..].split_at(shape.state);
         let base = cipher.state_of(state);
-        let fits = position <= END && padding.iter().all(|&byte| byte == 0) && cipher.admits(&base);
+        let zeros = padding.iter().all(|&byte| byte == 0);
+        let fits = position <= END && zeros && cipher.admits(&base) && image[command::LINE_AT] < 8;
         fits.then(|| Line { cipher, base, base_unit: position / shape.unit as u64, position, waiting: None })
     }
 
-    /// The image that the park of this number makes.
-    pub fn image(&self, number: u32) -> Vec<u8> {
+    /// The image that this park makes.
+    pub fn image(&self, (line, number): Park) -> Vec<u8> {
         let state = self.cipher.state_bytes(&self.state());
         let (position, number) = (self.position.to_be_bytes(), number.to_be_bytes());
-        let image = [&[self.cipher.shape().number], &position[..], &number, &state].concat();
+        let image = [&[self.cipher.shape().number], &position[..], &[line], &number, &state].concat();
         command::padded(&image, IMAGE)
     }
 

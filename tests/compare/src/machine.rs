@@ -2,7 +2,7 @@
 //! it refuses, and what it does for the others.
 
 use crate::cipher::by_number;
-use crate::command::{self, count, length, park_number};
+use crate::command::{self, count, length, park_of};
 use crate::command::{CHANGE_KEY, CLOSE, CRYPT, IMAGE, LOAD, OPEN_OWN, OPEN_TRAY, PARK, RESUME, START};
 use crate::keys;
 use crate::line::Line;
@@ -69,7 +69,7 @@ impl Machine {
         Machine { parks, ..Machine::fresh() }
     }
 
-    /// Makes a line as an image has it, whatever the image's number, with nothing waiting; tells whether number 8 lets
+    /// Makes a line as an image has it, whatever park the image is of, with nothing waiting; tells whether number 8 lets
     /// it, and makes the line idle if not.
     pub fn set(&mut self, line: u8, image: &[u8]) -> bool {
         let made = Line::from_image(image);
@@ -172,7 +172,7 @@ impl Machine {
         let waits = || open.is_some_and(|l| l.waiting.is_some());
         let passed = |l: &Line| command::position(command) < l.position || command::position(command) > END;
         let past_end = |l: &Line| l.after(count(command)) > END;
-        let held = || self.parks.holds(park_number(&command[2..]));
+        let held = || self.parks.holds(park_of(&command[2..]));
         let stray = || cipher().is_some_and(|cipher| keys::stray(cipher, command, tray));
         let blank = || cipher().is_some_and(|cipher| keys::blank(cipher, command, tray));
         let rows: [(u8, &dyn Fn() -> bool); 17] = [
@@ -183,7 +183,7 @@ impl Machine {
             (19, &|| kind == START && place.loaded().is_none()),
             (17, &|| (changes || kind == PARK) && waits()),
             (18, &|| changes && open.is_some_and(passed)),
-            (15, &|| kind == PARK && self.parks.used_up()),
+            (15, &|| kind == PARK && self.parks.used_up(line)),
             (9, &|| keys::from_tray(kind) && keys::bad_length(tray)),
             (10, &|| keys::from_tray(kind) && keys::not_there(command, tray)),
             (7, &|| (keys::has_key(kind) || keys::has_iv(kind)) && stray()),
@@ -216,7 +216,7 @@ impl Machine {
             }
             RESUME => {
                 *place = Place::of(Line::from_image(&command[2..]));
-                self.parks.take_up(park_number(&command[2..]));
+                self.parks.take_up(park_of(&command[2..]).0);
             }
             CHANGE_KEY => {
                 let l = place.open_mut().expect("an accepted change is on an open line");
@@ -231,7 +231,7 @@ impl Machine {
             PARK => {
                 let l = place.open().expect("an accepted park is on an open line");
                 let number = self.parks.park(usize::from(command[1]));
-                out[..IMAGE].copy_from_slice(&l.image(number));
+                out[..IMAGE].copy_from_slice(&l.image((command[1], number)));
                 answer.written = IMAGE;
                 *place = Place::Idle;
             }

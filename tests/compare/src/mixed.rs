@@ -5,7 +5,7 @@
 
 use crate::calls::{self, OwnCall};
 use crate::cipher::LAST;
-use crate::command::{self, numbered, park_number, IMAGE, PARK, RECORD, RESUME};
+use crate::command::{self, of_park, park_of, IMAGE, PARK, RECORD, RESUME};
 use crate::ledger::{Fate, Ledger};
 use crate::machine::{Answer, Machine, END};
 use crate::parks::{self, Parks};
@@ -13,7 +13,8 @@ use crate::program::{self, Call};
 use crate::random::Random;
 use crate::{changing, images, lists, plain, trays};
 
-/// A list of calls, and the card that it begins with: all lines idle, no number held, and perhaps parks made.
+/// A list of calls, and the card that it begins with: all lines idle, no number held, and perhaps parks made from some
+/// lines.
 pub struct CallList {
     pub start: Machine,
     pub calls: Vec<OwnCall>,
@@ -26,7 +27,7 @@ const MOST: usize = 150;
 /// them. Images of the lists' own parks have the numbers that these parks have there.
 pub fn list(seed: u64, number: u64) -> CallList {
     let mut random = Random::new(seed ^ 0xCA11, number);
-    let made = made_before(&mut random);
+    let made = if random.chance(50) { [0; 8].map(|_: u32| made_before(&mut random)) } else { [0; 8] };
     let start = Machine::with(Parks::of(made, [0; 8]).unwrap_or_default());
     let mut parts: Vec<Part> = (0..3).map(|i| Part::of(&mut random, seed, 3 * number + i)).collect();
     let (mut table, mut calls) = (Table { machine: start.clone(), ledger: Ledger::after(made) }, Vec::new());
@@ -43,42 +44,43 @@ pub fn list(seed: u64, number: u64) -> CallList {
     CallList { start, calls }
 }
 
-/// How many parks a card has made: mostly none, else nearly as many as can be made, any number, or one at which the
+/// How many parks were made from a line: mostly none, else nearly as many as can be made, any number, or one at which the
 /// count will run over the end of a byte.
 fn made_before(random: &mut Random) -> u32 {
     match random.between(0, 7) {
-        0 => parks::MOST - random.between(0, 20) as u32,
+        0 => parks::MOST - random.between(0, 2) as u32,
         1 => random.draw() as u32,
         2 => (1 << random.pick(&[8, 16, 24, 31])) - random.between(1, 5) as u32,
         _ => 0,
     }
 }
 
-/// What is left of the calls of a command list, last one first, each with whether it is a park that the list's own card
-/// accepts; and for each such park made, its number on the mixed card, if that one accepts it too.
+/// What is left of the calls of a command list, last one first, each with its line if it is a park that the list's own
+/// card accepts; and by their lines, for each such park made, its number on the mixed card, if that one accepts it too.
 struct Part {
-    calls: Vec<(OwnCall, bool)>,
-    numbers: Vec<Option<u32>>,
+    calls: Vec<(OwnCall, Option<u8>)>,
+    numbers: [Vec<Option<u32>>; 8],
 }
 
 impl Part {
     fn of(random: &mut Random, seed: u64, number: u64) -> Part {
         let list = lists::list(seed, number);
         let run = program::run(&list.files);
-        let park = |call: &Call, answer: &Answer| answer.code == 0 && call.command[0] == PARK;
+        let park =
+            |call: &Call, answer: &Answer| (answer.code == 0 && call.command[0] == PARK).then(|| call.command[1]);
         let calls = run.calls.iter().take(MOST).map(|(call, answer)| (calls::own(random, call), park(call, answer)));
-        let mut calls: Vec<(OwnCall, bool)> = calls.collect();
+        let mut calls: Vec<(OwnCall, Option<u8>)> = calls.collect();
         calls.reverse();
-        Part { calls, numbers: Vec::new() }
+        Part { calls, numbers: Default::default() }
     }
 
     /// Makes the next call on the mixed card and gives it; nothing if none is left.
     fn make(&mut self, table: &mut Table) -> Option<OwnCall> {
         let (mut call, park) = self.calls.pop()?;
         self.renumber(&mut call.command);
-        let (code, number) = table.call(&call);
-        if park {
-            self.numbers.push((code == 0).then_some(number));
+        let code = table.call(&call);
+        if let Some(line) = park.map(usize::from) {
+            self.numbers[line].push((code == 0).then_some(table.machine.parks().made()[line]));
         }
         Some(call)
     }
@@ -89,9 +91,11 @@ impl Part {
         let Some(image) = command.get_mut(2..2 + IMAGE).filter(|_| whole) else {
             return;
         };
-        let own = (1..).zip(&self.numbers).find(|(own, _)| *own == park_number(image));
-        if let Some((_, Some(number))) = own {
-            image.copy_from_slice(&numbered(image, *number));
+        let (line, own) = park_of(image);
+        let numbers = self.numbers.get(usize::from(line)).into_iter().flatten();
+        let on_the_mixed = (1..).zip(numbers).find(|(number, _)| *number == own);
+        if let Some((_, Some(number))) = on_the_mixed {
+            image.copy_from_slice(&of_park(image, (line, *number)));
         }
     }
 }
@@ -156,12 +160,12 @@ struct Table {
 }
 
 impl Table {
-    /// Makes a call; gives its code, and the number of the last park made.
-    fn call(&mut self, call: &OwnCall) -> (u8, u32) {
+    /// Makes a call; gives its code.
+    fn call(&mut self, call: &OwnCall) -> u8 {
         let mut out = call.out.clone();
         let answer = self.machine.call(&call.command, &call.tray, &call.data, &mut out);
         self.ledger.note(&call.command, &answer, &out);
-        (answer.code, self.machine.parks().made())
+        answer.code
     }
 
     /// Makes a crypt, a park or a change on an open line, a resume, an open or a load on an idle one, or any command on a
@@ -210,16 +214,25 @@ impl Table {
         }
     }
 
-    /// An image that a park of the list wrote, mostly one that is held, or one from elsewhere with the next number
-    /// where there is none such; at times with other contents, bad ones too, or another number.
+    /// An image that a park of the list wrote, mostly one that is held, or one from elsewhere with a line's next number
+    /// where there is none such; at times with other contents, bad ones too, another number, or another line.
     fn image(&self, random: &mut Random) -> Vec<u8> {
-        let made = self.machine.parks().made();
+        let (made, any_line) = (self.machine.parks().made(), random.between(0, 7) as u8);
+        let next = made[usize::from(any_line)].wrapping_add(1);
         let fate = random.pick(&[Fate::Held, Fate::Held, Fate::Held, Fate::Held, Fate::TakenUp, Fate::Replaced]);
         let written = self.ledger.images(fate);
         let own = if written.is_empty() {
-            numbered(&images::elsewhere(random), made.wrapping_add(1))
+            of_park(&images::elsewhere(random), (any_line, next))
         } else {
             random.pick(&written)
+        };
+        let (line, number) = park_of(&own);
+        let (count, any) = (made[usize::from(line)], random.draw() as u32);
+        let park = match random.between(0, 19) {
+            0 => (line, 0),
+            1 => (line, random.pick(&[count, count / 2, any])),
+            2 | 3 => (any_line, number),
+            _ => (line, number),
         };
         let contents = match random.between(0, 11) {
             0 | 1 => images::elsewhere(random),
@@ -229,17 +242,11 @@ impl Table {
             }
             4 => {
                 let index = random.size(0, 3 * images::FAULTS);
-                images::bad(random, index)
+                return images::bad(random, index, park);
             }
-            _ => own.clone(),
+            _ => own,
         };
-        let any = random.draw() as u32;
-        let number = match random.between(0, 19) {
-            0 => 0,
-            1 => random.pick(&[made, made / 2, any]),
-            _ => park_number(&own),
-        };
-        numbered(&contents, number)
+        of_park(&contents, park)
     }
 }
 
@@ -254,9 +261,11 @@ mod tests {
     fn images_changes_and_loads_are_taken_up_and_refused_in_every_way() {
         let (mut tally, mut subject) = (Tally::default(), CallByCall { card: Machine::fresh() });
         (0..100).for_each(|number| tally.add(&subject.hold(8, number).unwrap()));
-        assert!(tally.resumes[Resume::AsParked as usize] > 180, "{tally:?}");
+        let as_parked = [Resume::AsParked, Resume::HeldTwice].map(|kind| tally.resumes[kind as usize]);
+        assert!(as_parked[0] > 120 && as_parked[1] > 60, "{tally:?}");
         assert!(tally.resumes.iter().all(|&count| count > 4), "{tally:?}");
-        assert!(tally.codes[15] > 60 && tally.codes[16] > 30, "{tally:?}");
+        assert!(tally.parks.iter().all(|&count| count > 4), "{tally:?}");
+        assert!(tally.codes[15] > 40 && tally.codes[16] > 30, "{tally:?}");
         assert!(tally.codes[17] > 100 && tally.codes[18] > 40, "{tally:?}");
         assert!(tally.changes.iter().all(|&count| count > 0), "{tally:?}");
         assert!(tally.codes[19] > 60 && tally.loads.iter().all(|&count| count > 4), "{tally:?}");

@@ -5,6 +5,7 @@ mod altered;
 mod blank;
 mod case;
 mod changes;
+mod counts;
 mod examples;
 mod frames;
 mod full;
@@ -39,6 +40,7 @@ pub fn all() -> Vec<Case> {
         frames::cases(),
         parks::cases(),
         numbers::cases(),
+        counts::cases(),
         reuse::cases(),
         positions::cases(),
         images::cases(),
@@ -63,7 +65,7 @@ mod tests {
 
     #[test]
     fn cases_hold_and_have_names_of_their_own() {
-        assert_eq!(check(), Ok(2803));
+        assert_eq!(check(), Ok(3138));
         let cases = all();
         let names: HashSet<&str> = cases.iter().map(Case::name).collect();
         assert_eq!(names.len(), cases.len());

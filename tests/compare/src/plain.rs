@@ -3,7 +3,7 @@
 
 use crate::builder::Builder;
 use crate::cipher::{by_number, LAST};
-use crate::command::{self, numbered, padded, park_number, IMAGE, IV, RECORD};
+use crate::command::{self, of_park, padded, park_of, IMAGE, IV, RECORD};
 use crate::images;
 use crate::ledger::Fate;
 use crate::program::{Files, READ};
@@ -139,8 +139,8 @@ pub fn idle_line(b: &mut Builder) -> u8 {
     b.random.pick(&lines)
 }
 
-/// Resumes on an idle line, with a number that is held: mostly the image as its park wrote it, else what another park
-/// wrote or an image from elsewhere. Where no number is held, opens the line.
+/// Resumes on an idle line, with the line and the number of a park that is held: mostly the image as its park wrote it,
+/// else what another park wrote or an image from elsewhere. Where no park is held, opens the line.
 pub fn resume(b: &mut Builder, line: u8) -> bool {
     let held = b.images(Fate::Held);
     if held.is_empty() {
@@ -152,13 +152,13 @@ pub fn resume(b: &mut Builder, line: u8) -> bool {
         6 => b.random.pick(&b.all_images()),
         _ => images::elsewhere(&mut b.random),
     };
-    b.put(&command::resume(line, &numbered(&image, park_number(&own))))
+    b.put(&command::resume(line, &of_park(&image, park_of(&own))))
 }
 
-/// Resumes an image on an idle line in the place of a parked one, with that one's number.
+/// Resumes an image on an idle line in the place of a parked one, as one of that park.
 pub fn altered(b: &mut Builder, line: u8, image: &[u8]) -> bool {
     let held = held_image(b);
-    b.put(&command::resume(line, &numbered(image, park_number(&held))))
+    b.put(&command::resume(line, &of_park(image, park_of(&held))))
 }
 
 /// The image of a park that is held; a call is parked for it where there is none. There must be room for that in out.

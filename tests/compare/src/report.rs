@@ -1,7 +1,7 @@
 //! What is said while lists run and at the end.
 
 use crate::changes::Change;
-use crate::ledger::Resume;
+use crate::ledger::{Parked, Resume};
 use crate::loads::Load;
 use crate::sheet::REFUSALS;
 use crate::subject::Tally;
@@ -34,7 +34,7 @@ impl Progress {
 }
 
 /// The summary: named cases, lists, calls, bytes enciphered, how often each number was met, 255 only if it was, and how
-/// often each kind of resume, of change and of load; and of the programs' records and sheets, if there are any.
+/// often each kind of park, of resume, of change and of load; and of the programs' records and sheets, if there are any.
 pub fn summary(tally: &Tally) -> String {
     let mut text = format!("named cases {}\nlists {}\ncalls {}\n", tally.named, tally.lists, tally.calls);
     text.push_str(&format!("bytes enciphered {}\n", tally.bytes));
@@ -45,18 +45,10 @@ pub fn summary(tally: &Tally) -> String {
     if tally.damaged > 0 {
         text.push_str(&format!("255 {}\n", tally.damaged));
     }
-    text.push_str("resume met\n");
-    for (name, count) in Resume::NAMES.iter().zip(tally.resumes) {
-        text.push_str(&format!("{name}: {count}\n"));
-    }
-    text.push_str("change of key met\n");
-    for (name, count) in Change::NAMES.iter().zip(tally.changes) {
-        text.push_str(&format!("{name}: {count}\n"));
-    }
-    text.push_str("load met\n");
-    for (name, count) in Load::NAMES.iter().zip(tally.loads) {
-        text.push_str(&format!("{name}: {count}\n"));
-    }
+    text.push_str(&part("park", &Parked::NAMES, &tally.parks));
+    text.push_str(&part("resume", &Resume::NAMES, &tally.resumes));
+    text.push_str(&part("change of key", &Change::NAMES, &tally.changes));
+    text.push_str(&part("load", &Load::NAMES, &tally.loads));
     if tally.records + tally.sheets > 0 {
         text.push_str(&format!("records {}\nsheets {}\nsheet met\n", tally.records, tally.sheets));
         for (name, count) in sheet_names().zip(tally.reports) {
@@ -71,12 +63,22 @@ fn sheet_names() -> impl Iterator<Item = String> {
     ["reported".to_string()].into_iter().chain(REFUSALS.map(|number| number.to_string()))
 }
 
-/// The numbers and the kinds of resume, of change and of load that were never met. Number 15, 255 and an image from before the
-/// list are asked for only if cards are handed in: a fresh card doesn't come to them. Records, and a sheet that is reported
-/// and one for each of its numbers, are asked for only if they aren't: these are of the programs.
+/// A heading, and how often each kind was met.
+fn part(what: &str, names: &[&str], counts: &[u64]) -> String {
+    let lines = names.iter().zip(counts).map(|(name, count)| format!("{name}: {count}\n"));
+    [format!("{what} met\n")].into_iter().chain(lines).collect()
+}
+
+/// The numbers and the kinds of park, of resume, of change and of load that were never met. Number 15, the parks beside it
+/// and up to it, 255 and an image from before the list are asked for only if cards are handed in: a fresh card doesn't come
+/// to them. Records, and a sheet that is reported and one for each of its numbers, are asked for only if they aren't: these
+/// are of the programs.
 pub fn missing(tally: &Tally, handed_in: bool) -> Vec<String> {
     let numbers = (0..).zip(tally.codes).chain([(255, tally.damaged)]);
     let numbers = numbers.filter(|&(number, count)| count == 0 && (handed_in || ![15, 255].contains(&number)));
+    let handed = |&(kind, _): &(usize, &&str)| Parked::HANDED_IN.iter().any(|&parked| parked as usize == kind);
+    let parks = Parked::NAMES.iter().enumerate().filter(|&(kind, _)| tally.parks[kind] == 0);
+    let parks = parks.filter(|park| handed_in || !handed(park));
     let resumes = Resume::NAMES.iter().enumerate().filter(|&(kind, _)| tally.resumes[kind] == 0);
     let resumes = resumes.filter(|&(kind, _)| handed_in || kind != Resume::Earlier as usize);
     let changes = Change::NAMES.iter().zip(tally.changes).filter(|&(_, count)| count == 0);
@@ -84,11 +86,12 @@ pub fn missing(tally: &Tally, handed_in: bool) -> Vec<String> {
     let sheets = sheet_names().zip(tally.reports).filter(|&(_, count)| count == 0 && !handed_in);
     let records = (tally.records == 0 && !handed_in).then(|| "a record".to_string());
     let numbers = numbers.map(|(number, _)| number.to_string());
+    let parks = parks.map(|(_, name)| format!("park: {name}"));
     let resumes = resumes.map(|(_, name)| format!("resume: {name}"));
     let changes = changes.map(|(name, _)| format!("change of key: {name}"));
     let loads = loads.map(|(name, _)| format!("load: {name}"));
     let sheets = sheets.map(|(name, _)| format!("sheet: {name}"));
-    numbers.chain(resumes).chain(changes).chain(loads).chain(records).chain(sheets).collect()
+    numbers.chain(parks).chain(resumes).chain(changes).chain(loads).chain(records).chain(sheets).collect()
 }
 
 /// The last line of a run in which nothing differed, for the part of the tests that it is: the named cases, the lists and
@@ -124,20 +127,25 @@ mod tests {
 
     #[test]
     fn what_was_never_met_is_told() {
-        let (resumes, changes, loads) = ([1; 8], [1; 9], [1; 16]);
-        let mut tally = Tally { codes: [1; 20], damaged: 1, resumes, changes, loads, ..Tally::default() };
+        let (parks, resumes, changes, loads) = ([1; 5], [1; 11], [1; 9], [1; 16]);
+        let mut tally = Tally { codes: [1; 20], damaged: 1, parks, resumes, changes, loads, ..Tally::default() };
         assert!(missing(&tally, true).is_empty());
         let programs = ["a record", "sheet: reported", "sheet: 20", "sheet: 21", "sheet: 22"];
         assert_eq!(missing(&tally, false), owned(&programs));
         (tally.records, tally.reports) = (1, [1, 1, 0, 1]);
         tally.codes[14..].fill(0);
-        (tally.damaged, tally.resumes[2], tally.resumes[7], tally.changes[1]) = (0, 0, 0, 0);
+        (tally.damaged, tally.resumes[4], tally.resumes[10], tally.changes[1]) = (0, 0, 0, 0);
+        tally.parks[1..].fill(0);
         tally.loads[..3].fill(0);
         let (zero, earlier) = ("resume: 14, number 0", "resume: 14, from before the list");
+        let (same, beside) =
+            ("park: with the number of another line's last", "park: beside a line with no number left");
+        let (last, used_up) = ("park: with its line's last number", "park: 15");
         let change = "change of key: due within a crypt";
         let loads = ["load: loaded", "load: started by the next call", "load: started after other calls"];
-        let fresh = [&["14", "16", "17", "18", "19", zero, change][..], &loads, &["sheet: 21"]].concat();
-        let other = [&["14", "15", "16", "17", "18", "19", "255", zero, earlier, change][..], &loads].concat();
+        let fresh = [&["14", "16", "17", "18", "19", same, zero, change][..], &loads, &["sheet: 21"]].concat();
+        let numbers = ["14", "15", "16", "17", "18", "19", "255"];
+        let other = [&numbers[..], &[same, beside, last, used_up, zero, earlier, change], &loads].concat();
         assert_eq!((missing(&tally, false), missing(&tally, true)), (owned(&fresh), owned(&other)));
     }
 

@@ -3,7 +3,7 @@
 //! `cardrun` as a process is one; anything with a function for one call can be another.
 
 use crate::changes::{Change, Changes};
-use crate::ledger::{Ledger, Resume};
+use crate::ledger::{Ledger, Met, Parked, Resume};
 use crate::loads::{Load, Loads};
 use crate::machine::Answer;
 use crate::named::{self, Case};
@@ -13,7 +13,7 @@ use std::ops::Range;
 
 /// What lists came to by the second implementation: named cases, lists of the seed, calls of both, the bytes that their
 /// crypts took, how often each code was met, 255 for a damaged card apart from the others, and how often each kind of
-/// resume, of change and of load on a card whose parks and lines are known; the records that runs of `cardrun` append;
+/// park, of resume, of change and of load on a card whose parks and lines are known; the records that runs of `cardrun` append;
 /// and files of the seed for `sheet`, and how often sheets were reported and refused with each of its numbers.
 #[derive(Clone, Debug, Default, PartialEq, Eq)]
 pub struct Tally {
@@ -23,6 +23,7 @@ pub struct Tally {
     pub bytes: u64,
     pub codes: [u64; 20],
     pub damaged: u64,
+    pub parks: [u64; Parked::NAMES.len()],
     pub resumes: [u64; Resume::NAMES.len()],
     pub changes: [u64; Change::NAMES.len()],
     pub loads: [u64; Load::NAMES.len()],
@@ -43,8 +44,10 @@ impl Tally {
     /// Counts a call of a list whose parks the ledger has.
     pub fn note(&mut self, ledger: &mut Ledger, command: &[u8], answer: &Answer, out: &[u8]) {
         self.count(answer);
-        if let Some(resume) = ledger.note(command, answer, out) {
-            self.resumes[resume as usize] += 1;
+        match ledger.note(command, answer, out) {
+            Some(Met::Park(parked)) => self.parks[parked as usize] += 1,
+            Some(Met::Resume(resume)) => self.resumes[resume as usize] += 1,
+            None => (),
         }
     }
 
@@ -70,9 +73,10 @@ impl Tally {
         self.damaged += other.damaged;
         self.records += other.records;
         self.sheets += other.sheets;
-        let sums = self.codes.iter_mut().chain(&mut self.resumes).chain(&mut self.changes).chain(&mut self.loads);
-        let counts = other.codes.iter().chain(&other.resumes).chain(&other.changes).chain(&other.loads);
-        for (sum, count) in sums.chain(&mut self.reports).zip(counts.chain(&other.reports)) {
+        let sums = self.codes.iter_mut().chain(&mut self.parks).chain(&mut self.resumes);
+        let counts = other.codes.iter().chain(&other.parks).chain(&other.resumes);
+        let sums = sums.chain(&mut self.changes).chain(&mut self.loads).chain(&mut self.reports);
+        for (sum, count) in sums.zip(counts.chain(&other.changes).chain(&other.loads).chain(&other.reports)) {
             *sum += count;
         }
     }

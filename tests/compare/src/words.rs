@@ -1,12 +1,13 @@
 //! The card as words that a program in C or Rust keeps: eight lines alike, each the mode (1 of an open line, 2 of a
 //! loaded one), the cipher's number, the position in two words, the high one first, and the state bytes as big-endian
 //! words with zeros after them, then in the same form the position of the change that waits and its stream's S(0), all
-//! zeros where none does; then the count of the parks made, and for each line the number that is held. A loaded line is
-//! at position 0, and in the state's place it has what it keeps: its key's bytes, or of Rabbit the state that the key
-//! alone gives. An idle line is all zeros, whether a number is held for it or not.
+//! zeros where none does; then for each line the count of the parks made from it, and for each the number that is held. A
+//! loaded line is at position 0, and in the state's place it has what it keeps: its key's bytes, or of Rabbit the state
+//! that the key alone gives. An idle line is all zeros, whatever was parked from it and is held of it.
 
 use crate::cipher;
 use crate::command::padded;
+use crate::images;
 use crate::machine::{Machine, Seen, SeenChange, SeenLoad};
 use crate::parks::Parks;
 
@@ -22,9 +23,9 @@ pub const START: usize = DUE + 2;
 /// The words of a line.
 pub const LINE: usize = START + STATE_WORDS;
 
-/// Where the count of parks stands in a card, and where the held numbers begin.
+/// Where the counts of parks begin in a card, and where the held numbers do.
 pub const COUNT: usize = 8 * LINE;
-pub const HELD: usize = COUNT + 1;
+pub const HELD: usize = COUNT + 8;
 
 /// The words of a card.
 pub const CARD: usize = HELD + 8;
@@ -34,7 +35,7 @@ pub fn of(machine: &Machine) -> Vec<u32> {
     let words = |line| machine.seen(line).map(open_line).or(machine.loaded(line).map(loaded_line));
     let lines = (0..8).flat_map(|line| words(line).unwrap_or(vec![0; LINE]));
     let parks = machine.parks();
-    lines.chain([parks.made()]).chain(parks.held()).collect()
+    lines.chain(parks.made()).chain(parks.held()).collect()
 }
 
 fn open_line(seen: Seen) -> Vec<u32> {
@@ -57,8 +58,8 @@ fn place_in(position: u64, state: &[u8]) -> Vec<u32> {
 /// the line's cipher, the change's position and its stream's S(0); a loaded line by the key or the state that it keeps.
 pub fn machine(card: &[u32]) -> Option<Machine> {
     let card: &[u32; CARD] = card.try_into().ok()?;
-    let held: [u32; 8] = card[HELD..].try_into().ok()?;
-    let mut machine = Machine::with(Parks::of(card[COUNT], held)?);
+    let (made, held) = card[COUNT..].split_at(HELD - COUNT);
+    let mut machine = Machine::with(Parks::of(made.try_into().ok()?, held.try_into().ok()?)?);
     for (number, line) in (0..).zip(card[..COUNT].chunks_exact(LINE)) {
         let taken = match line[0] {
             0 => zero(line),
@@ -96,12 +97,12 @@ fn zero(words: &[u32]) -> bool {
     words.iter().all(|&word| word == 0)
 }
 
-/// The image of a place in a stream, with 0 for a number; nothing if the cipher isn't a byte.
+/// The image of a place in a stream, of no park; nothing if the cipher isn't a byte.
 fn image(cipher: u32, place: &[u32]) -> Option<Vec<u8>> {
     let cipher = u8::try_from(cipher).ok()?;
-    let (position, state) = place.split_at(2);
-    let rest = [position, &[0], state].concat().into_iter().flat_map(|word| word.to_be_bytes());
-    Some([cipher].into_iter().chain(rest).collect())
+    let position = (u64::from(place[0]) << 32) + u64::from(place[1]);
+    let state: Vec<u8> = place[2..].iter().flat_map(|word| word.to_be_bytes()).collect();
+    Some(images::image(cipher, position, images::NO_PARK, &state))
 }
 
 /// Where the words of two cards first differ, in words; nothing if they don't.
@@ -118,8 +119,8 @@ pub fn first_difference(wanted: &[u32], got: &[u32]) -> Option<String> {
 fn place(word: usize) -> String {
     match word {
         0..COUNT => format!("word {} of line {}", word % LINE, word / LINE),
-        COUNT => "the count of parks".to_string(),
-        _ => format!("the number held for line {}", word - HELD),
+        COUNT..HELD => format!("the count of parks of line {}", word - COUNT),
+        _ => format!("the number held of line {}", word - HELD),
     }
 }
 
@@ -127,14 +128,15 @@ fn place(word: usize) -> String {
 mod tests {
     use super::*;
     use crate::command;
-    use crate::images;
+    use crate::images::NO_PARK;
     use crate::machine::END;
     use crate::random::Random;
 
     /// A machine with an image from elsewhere on each line but the last, a change that waits on every other one if there
-    /// is a position for it, nine parks made, and three numbers held.
+    /// is a position for it, parks made from five lines, and numbers held of four.
     fn some(random: &mut Random) -> Machine {
-        let mut machine = Machine::with(Parks::of(9, [0, 4, 0, 0, 9, 0, 0, 1]).unwrap());
+        let parks = Parks::of([0, 4, 0, 2, 9, 0, 4, 1], [0, 4, 0, 0, 9, 0, 1, 1]);
+        let mut machine = Machine::with(parks.unwrap());
         for line in 0..7 {
             let image = images::elsewhere(random);
             assert!(machine.set(line, &image));
@@ -159,15 +161,16 @@ mod tests {
 
     #[test]
     fn words_stand_in_their_places() {
-        let mut machine = Machine::with(Parks::of(7, [6, 0, 0, 0, 0, 0, 0, 5]).unwrap());
+        let parks = Parks::of([7, 1, 0, 0, 0, 0, 0, 8], [6, 0, 0, 0, 0, 0, 0, 5]);
+        let mut machine = Machine::with(parks.unwrap());
         let state = [[0xAA; 64].as_slice(), &[1]].concat();
-        assert!(machine.set(1, &images::image(2, END - 1, 0xBBBB_BBBB, &state)));
+        assert!(machine.set(1, &images::image(2, END - 1, (7, 0xBBBB_BBBB), &state)));
         let words = of(&machine);
         assert_eq!(words[LINE..LINE + 5], [1, 2, 0xF, 0xFFFF_FFFF, 0xAAAA_AAAA]);
         assert_eq!(words[LINE + 19..LINE + 21], [0xAAAA_AAAA, 0x0100_0000]);
         assert!(zero(&words[..LINE]) && zero(&words[LINE + 21..COUNT]));
-        assert_eq!(words[656..], [7, 6, 0, 0, 0, 0, 0, 0, 5]);
-        assert!(machine.wait(1, &images::image(2, END, 0xBBBB_BBBB, &[[0xCC; 64].as_slice(), &[1]].concat())));
+        assert_eq!(words[656..], [7, 1, 0, 0, 0, 0, 0, 8, 6, 0, 0, 0, 0, 0, 0, 5]);
+        assert!(machine.wait(1, &images::image(2, END, (7, 0xBBBB_BBBB), &[[0xCC; 64].as_slice(), &[1]].concat())));
         let waiting = of(&machine);
         assert_eq!(waiting[82 + 42..82 + 45], [0x10, 0, 0xCCCC_CCCC]);
         assert_eq!(waiting[82 + 59..82 + 61], [0xCCCC_CCCC, 0x0100_0000]);
@@ -180,11 +183,12 @@ mod tests {
         let words = of(&some(&mut Random::new(6, 1)));
         let with = |place: usize, word: u32| machine(&[&words[..place], &[word], &words[place + 1..]].concat());
         let lines = [(0, 2), (0, 0), (0, 257), (1, 0), (1, 7), (1, 257), (2, 17), (COUNT - 1, 1)];
-        let parks = [(COUNT, 8), (COUNT, 0), (HELD, 10), (HELD + 7, u32::MAX), (HELD, 1), (HELD + 3, 9), (HELD + 4, 4)];
+        let parks = [(COUNT + 4, 8), (COUNT + 7, 0), (HELD, 1), (HELD + 1, 5), (HELD + 3, 4), (HELD + 7, u32::MAX)];
         for (place, word) in lines.into_iter().chain(parks) {
             assert!(with(place, word).is_none(), "{place} {word}");
         }
-        for (place, word) in [(COUNT, 10), (COUNT, u32::MAX), (HELD, 8), (HELD + 4, 0), (HELD + 4, 2)] {
+        let good = [(COUNT, 1), (COUNT + 4, u32::MAX), (HELD + 3, 2), (HELD + 4, 0), (HELD + 4, 4), (HELD + 6, 4)];
+        for (place, word) in good {
             assert!(with(place, word).is_some(), "{place} {word}");
         }
         assert!(machine(&words[1..]).is_none());
@@ -194,8 +198,8 @@ mod tests {
     #[test]
     fn a_change_that_waits_is_above_its_lines_position_and_has_a_state() {
         let mut machine = Machine::fresh();
-        assert!(machine.set(3, &images::image(1, 7, 0, &[1; 72])));
-        assert!(machine.wait(3, &images::image(1, 8, 0, &[2; 72])));
+        assert!(machine.set(3, &images::image(1, 7, NO_PARK, &[1; 72])));
+        assert!(machine.wait(3, &images::image(1, 8, NO_PARK, &[2; 72])));
         let words = of(&machine);
         let with = |changes: &[(usize, u32)]| {
             let mut card = words.clone();
@@ -269,8 +273,10 @@ mod tests {
     fn differences_are_found() {
         let told = |at: usize| first_difference(&[0; CARD], &[vec![0; at], vec![9], vec![0; CARD - at - 1]].concat());
         assert_eq!(told(LINE + 3).unwrap(), "word 3 of line 1 is 00000009, expected 00000000");
-        assert_eq!(told(656).unwrap(), "the count of parks is 00000009, expected 00000000");
-        assert_eq!(told(664).unwrap(), "the number held for line 7 is 00000009, expected 00000000");
+        assert_eq!(told(656).unwrap(), "the count of parks of line 0 is 00000009, expected 00000000");
+        assert_eq!(told(663).unwrap(), "the count of parks of line 7 is 00000009, expected 00000000");
+        assert_eq!(told(664).unwrap(), "the number held of line 0 is 00000009, expected 00000000");
+        assert_eq!(told(671).unwrap(), "the number held of line 7 is 00000009, expected 00000000");
         assert_eq!(first_difference(&[1, 2], &[1]).unwrap(), "the card has 1 words, expected 2");
         assert_eq!(first_difference(&[1, 2], &[1, 2]), None);
     }

@@ -1,11 +1,11 @@
 //! A card with a line for each cipher, one that is a byte before the end and one that is idle, with changes of key that
-//! wait on two lines, and with numbers of parks that are held, taken up and replaced; and calls that meet every code on
-//! it but 15. It can be turned, so that what stood on line 0 stands on another.
+//! wait on two lines, and with parks of four lines that are held, taken up and replaced; and calls that meet every code
+//! on it but 15. It can be turned, so that what stood on line 0 stands on another.
 
 use crate::{changes, loads};
 use compare::calls::OwnCall;
 use compare::cipher::{by_number, LAST};
-use compare::command::{self, padded, IMAGE, IV, RECORD};
+use compare::command::{self, padded, Park, IMAGE, IV, RECORD};
 use compare::images::image;
 use compare::machine::{Machine, END};
 
@@ -33,16 +33,19 @@ pub fn position(what: u8) -> u64 {
     5 * u64::from(what) + 6
 }
 
-/// The numbers of the parks: one that was taken up, one that a later park replaced, and those that are held for three
-/// lines. The last is the count.
-pub const TAKEN_UP: u32 = 1;
-pub const REPLACED: u32 = 2;
-pub const HELD: [(u8, u32); 3] = [(IDLE, 3), (KCIPHER2, 4), (RABBIT, 5)];
-pub const COUNT: u32 = 5;
+/// How many parks were made from what stands on the lines, and the number held of it, if one is. Of the late line the one
+/// park was taken up; two lines hold the same number.
+pub const MADE: [u32; 8] = [0, 3, 0, 0, 2, 0, 1, 2];
+pub const HELD: [(u8, u32); 3] = [(IDLE, 2), (KCIPHER2, 2), (RABBIT, 3)];
 
 /// The line on which something stands after so many turns.
 pub fn line(what: u8, turn: u8) -> u8 {
     (what + turn) % 8
+}
+
+/// The park of this number from what stands on a line after so many turns.
+fn park(what: u8, turn: u8, number: u32) -> Park {
+    (line(what, turn), number)
 }
 
 /// The card.
@@ -52,7 +55,7 @@ pub fn machine(turn: u8) -> Machine {
         let code = machine.call(command, &tray(), &[0; 31], &mut [0; IMAGE]).code;
         assert_eq!(code, 0, "the card is made with accepted commands");
     };
-    for what in [LATE, IDLE, IDLE, KCIPHER2, RABBIT] {
+    for what in [LATE, RABBIT, IDLE, RABBIT, KCIPHER2, IDLE, KCIPHER2, RABBIT] {
         accept(&open(line(what, turn), 2));
         accept(&command::park(line(what, turn)));
     }
@@ -62,7 +65,7 @@ pub fn machine(turn: u8) -> Machine {
     }
     accept(&change(line(WAITING, turn), position(WAITING) + 4));
     accept(&change(line(FAR, turn), END));
-    accept(&command::resume(line(LATE, turn), &image(LATE_CIPHER, END - 1, TAKEN_UP, &[7; 72])));
+    accept(&command::resume(line(LATE, turn), &image(LATE_CIPHER, END - 1, park(LATE, turn, 1), &[7; 72])));
     machine
 }
 
@@ -76,9 +79,9 @@ pub fn change(line: u8, position: u64) -> Vec<u8> {
     command::change_key(line, 0, &padded(&[0x5A; 8], IV), position)
 }
 
-/// A well-formed image of SNOW 2.0 with a number.
-fn some(number: u32) -> Vec<u8> {
-    image(3, 1, number, &[9; 72])
+/// A well-formed image of SNOW 2.0 of a park.
+fn some(park: Park) -> Vec<u8> {
+    image(3, 1, park, &[9; 72])
 }
 
 /// Command 02 with a key and an IV of the cipher's lengths.
@@ -111,8 +114,9 @@ fn accepted(turn: u8) -> Vec<(u8, OwnCall)> {
         command::crypt(line(KCIPHER2, turn), 0),
         command::park(line(RABBIT, turn)),
         command::park(line(MUGI, turn)),
-        command::resume(idle, &some(HELD[0].1)),
-        command::resume(idle, &image(6, 1, HELD[1].1, &[9; 152])),
+        command::resume(idle, &some(park(IDLE, turn, 2))),
+        command::resume(idle, &some(park(RABBIT, turn, 3))),
+        command::resume(idle, &image(6, 1, park(KCIPHER2, turn, 2), &[9; 152])),
         command::close(line(KCIPHER2, turn)),
     ];
     commands.map(|command| (0, call(command))).into()
@@ -125,8 +129,8 @@ fn unread(turn: u8) -> Vec<(u8, OwnCall)> {
         (1, vec![]),
         (1, vec![3, idle, 0]),
         (1, open(idle, 1)[..50].to_vec()),
-        (1, command::resume(idle, &some(HELD[0].1)[..IMAGE - 1])),
-        (1, command::resume(idle, &some(HELD[0].1)[..161])),
+        (1, command::resume(idle, &some((idle, 2))[..IMAGE - 1])),
+        (1, command::resume(idle, &some((idle, 2))[..161])),
         (1, change(line(ZUC, turn), 9)[..26].to_vec()),
         (1, vec![7]),
         (2, vec![0; 2 + IMAGE]),
@@ -140,14 +144,15 @@ fn unread(turn: u8) -> Vec<(u8, OwnCall)> {
     calls.map(|(code, command)| (code, call(command))).into()
 }
 
-/// Refusals that the lines, the key, the IV, the image or its number decide.
+/// Refusals that the lines, the key, the IV, the image or its park decide.
 fn unfit(turn: u8) -> Vec<(u8, OwnCall)> {
     let (busy, idle) = (line(ZUC, turn), line(IDLE, turn));
-    let held = HELD[0].1;
+    let (held, taken_up, replaced) = (park(IDLE, turn, 2), park(LATE, turn, 1), park(IDLE, turn, 1));
     let calls = [
         (5, open(busy, 1)),
         (5, command::resume(busy, &some(held))),
-        (5, command::resume(busy, &some(0))),
+        (5, command::resume(busy, &some((busy, 0)))),
+        (5, command::resume(busy, &some((8, 0)))),
         (6, command::crypt(idle, 0)),
         (6, command::crypt(idle, 9)),
         (6, command::park(idle)),
@@ -157,13 +162,22 @@ fn unfit(turn: u8) -> Vec<(u8, OwnCall)> {
         (8, command::resume(idle, &[0; IMAGE])),
         (8, command::resume(idle, &image(3, END + 1, held, &[9; 72]))),
         (8, command::resume(idle, &image(5, 1, held, &[9; 81]))),
-        (8, command::resume(idle, &image(3, END + 1, TAKEN_UP, &[9; 72]))),
-        (14, command::resume(idle, &some(0))),
-        (14, command::resume(idle, &some(TAKEN_UP))),
-        (14, command::resume(idle, &some(REPLACED))),
-        (14, command::resume(idle, &some(COUNT + 1))),
-        (14, command::resume(idle, &some(held << 8))),
-        (14, command::resume(idle, &some(u32::MAX))),
+        (8, command::resume(idle, &image(3, END + 1, taken_up, &[9; 72]))),
+        (8, command::resume(idle, &some((8, 1)))),
+        (8, command::resume(idle, &some((8, 0)))),
+        (8, command::resume(idle, &some((held.0 + 8, held.1)))),
+        (8, command::resume(idle, &some((held.0 + 248, held.1)))),
+        (8, command::resume(idle, &some((255, u32::MAX)))),
+        (14, command::resume(idle, &some((idle, 0)))),
+        (14, command::resume(idle, &some((busy, 0)))),
+        (14, command::resume(idle, &some(taken_up))),
+        (14, command::resume(idle, &some(replaced))),
+        (14, command::resume(idle, &some(park(IDLE, turn, 3)))),
+        (14, command::resume(idle, &some(park(KCIPHER2, turn, 3)))),
+        (14, command::resume(idle, &some(park(RABBIT, turn, 2)))),
+        (14, command::resume(idle, &some(park(MUGI, turn, 1)))),
+        (14, command::resume(idle, &some((held.0, held.1 << 8)))),
+        (14, command::resume(idle, &some((held.0, u32::MAX)))),
         (10, command::open_tray(idle, 1, 1, &[0; IV])),
         (11, command::crypt(busy, 11)),
         (13, command::crypt(line(LATE, turn), 2)),

@@ -6,25 +6,25 @@ use crate::lent::COUNTS;
 use compare::subject::Tally;
 use compare::words::{self, COUNT, HELD, LINE};
 
-/// A change: what it is called, what stands on its line, and the new words with their places in the line; new numbers,
-/// with what stands on the lines that they are held for; and a new count of parks.
+/// A change: what it is called, what stands on its line, and the new words with their places in the line; new counts of
+/// parks and new numbers held, each with what stands on the line that it is of.
 pub struct Change {
     pub name: String,
     pub what: u8,
     pub words: Vec<(usize, u32)>,
+    pub made: Vec<(u8, u32)>,
     pub held: Vec<(u8, u32)>,
-    pub count: Option<u32>,
 }
 
 impl Change {
     pub fn new(name: impl Into<String>, what: u8, words: &[(usize, u32)]) -> Change {
-        Change { name: name.into(), what, words: words.to_vec(), held: Vec::new(), count: None }
+        Change { name: name.into(), what, words: words.to_vec(), made: Vec::new(), held: Vec::new() }
     }
 
-    /// A change in the parks alone; its line is that of the first number.
-    pub fn parks(name: impl Into<String>, held: &[(u8, u32)], count: Option<u32>) -> Change {
-        let what = held.first().map_or(0, |(what, _)| *what);
-        Change { held: held.to_vec(), count, ..Change::new(name, what, &[]) }
+    /// A change in the parks alone; its line is that of the first number held, or else of the first count.
+    pub fn parks(name: impl Into<String>, made: &[(u8, u32)], held: &[(u8, u32)]) -> Change {
+        let what = held.iter().chain(made).next().map_or(0, |(what, _)| *what);
+        Change { made: made.to_vec(), held: held.to_vec(), ..Change::new(name, what, &[]) }
     }
 
     /// Holds all calls of `base` on the changed card, the change on each line in turn. Whether it damages the card is
@@ -46,10 +46,12 @@ impl Change {
         for (place, word) in &self.words {
             card[LINE * line(self.what) + place] = *word;
         }
+        for (what, count) in &self.made {
+            card[COUNT + line(*what)] = *count;
+        }
         for (what, number) in &self.held {
             card[HELD + line(*what)] = *number;
         }
-        card[COUNT] = self.count.unwrap_or(card[COUNT]);
         for (code, call) in base::calls(turn) {
             let told = |told| format!("the call that has code {code} before the change: {told}");
             let answer = held::hold(&card, &call, &COUNTS).map_err(told)?;

@@ -1,7 +1,7 @@
 //! Cards that are just well formed: states, positions and numbers of parks at the ends of their ranges. 255 is not said
 //! of them, and calls go on from what they hold.
 
-use crate::base::{self, IDLE, KCIPHER2, LATE, MUGI, RABBIT, ZUC};
+use crate::base::{IDLE, KCIPHER2, LATE, MUGI, RABBIT, ZUC};
 use crate::change::{hold_all, Change};
 use compare::subject::Tally;
 use compare::words::{LINE, STATE};
@@ -13,30 +13,64 @@ pub fn hold() -> Result<Tally, String> {
     hold_all(&all, false)
 }
 
-/// Numbers that are held or not, up to the count, and counts up to the last park. After that one, parks are refused.
+/// What each line has.
+fn every(number: impl Fn(u8) -> u32) -> Vec<(u8, u32)> {
+    (ZUC..=IDLE).map(|what| (what, number(what))).collect()
+}
+
+/// Numbers that are held or not, up to their line's count, and counts up to the last park of a line. After that one, parks
+/// of the line are refused, and those of other lines are not.
 fn parks() -> Vec<Change> {
-    let none: Vec<(u8, u32)> = base::HELD.iter().map(|(what, _)| (*what, 0)).collect();
-    let all = |first: u32| (0..8).map(|what| (what, first + u32::from(what))).collect::<Vec<_>>();
-    let (last, before) = (Some(u32::MAX), Some(u32::MAX - 1));
+    let (none, last, before) = (every(|_| 0), every(|_| u32::MAX), every(|_| u32::MAX - 1));
+    let by_line = every(u32::from);
     let mut changes = vec![
-        Change::parks("parks made and no number held", &none, None),
-        Change::parks("no park made", &none, Some(0)),
-        Change::parks("a number held again that was taken up", &[(LATE, base::TAKEN_UP)], None),
-        Change::parks("a number held again that was replaced", &[(MUGI, base::REPLACED)], None),
-        Change::parks("a number for each line", &all(1), Some(8)),
-        Change::parks("the last eight numbers", &all(u32::MAX - 7), last),
-        Change::parks("the last eight numbers but one", &all(u32::MAX - 8), before),
-        Change::parks("as many parks as there are numbers", &[], last),
-        Change::parks("as many parks as there are numbers, none held", &none, last),
-        Change::parks("one park less than there are numbers", &[], before),
-        Change::parks("a count of 2^31", &[], Some(1 << 31)),
+        Change::parks("parks made and no number held", &[], &none),
+        Change::parks("no park made", &none, &none),
+        Change::parks("a number held again that was taken up", &[], &[(LATE, 1)]),
+        Change::parks("a number held again that was replaced", &[], &[(IDLE, 1)]),
+        Change::parks("a number for each line", &by_line, &by_line),
+        Change::parks("the same number for each line", &every(|_| 5), &every(|_| 5)),
+        Change::parks(
+            "the same number for each line, below its count",
+            &every(|what| 9 + u32::from(what)),
+            &every(|_| 5),
+        ),
+        Change::parks("the last number of each line", &last, &last),
+        Change::parks("the last number but one of each line", &before, &before),
+        Change::parks("as many parks of each line as there are numbers", &last, &[]),
+        Change::parks("as many parks of each line as there are numbers, none held", &last, &none),
+        Change::parks("one park less of each line than there are numbers", &before, &[]),
+        Change::parks("a count of 2^31 of each line", &every(|_| 1 << 31), &[]),
     ];
-    for what in 0..8 {
-        let name = format!("the number of the last park for line {what}");
-        changes.push(Change::parks(&name, &[(what, 9)], Some(9)));
-        changes.push(Change::parks(name + " of all", &[(what, u32::MAX)], last));
-    }
+    changes.extend((ZUC..=IDLE).flat_map(parks_of));
+    changes.extend((ZUC..=IDLE).flat_map(|one| (one + 1..=IDLE).flat_map(move |other| parks_of_two(one, other))));
     changes
+}
+
+/// One line's count and number up to the last, the others as they are; and the others' without it.
+fn parks_of(what: u8) -> Vec<Change> {
+    let others: Vec<(u8, u32)> = every(|_| u32::MAX).into_iter().filter(|(other, _)| *other != what).collect();
+    let own = |number: u32| [(what, number)];
+    vec![
+        Change::parks("the number of a line's last park", &own(9), &own(9)),
+        Change::parks("the last number of a line", &own(u32::MAX), &own(u32::MAX)),
+        Change::parks("the last number but one of a line", &own(u32::MAX - 1), &own(u32::MAX - 1)),
+        Change::parks("as many parks of a line as there are numbers", &own(u32::MAX), &[]),
+        Change::parks("as many parks of a line as there are numbers, none held", &own(u32::MAX), &own(0)),
+        Change::parks("as many parks of every other line as there are numbers", &others, &[]),
+        Change::parks("the last number of every other line", &others, &others),
+    ]
+}
+
+/// The same number held of two lines: each is taken up by its own line.
+fn parks_of_two(one: u8, other: u8) -> Vec<Change> {
+    let both = |number: u32| [(one, number), (other, number)];
+    let name = "a number held of two lines";
+    vec![
+        Change::parks(name, &both(1), &both(1)),
+        Change::parks(format!("{name}, below their counts"), &[(one, 4), (other, 9)], &both(2)),
+        Change::parks(format!("{name}, the last of both"), &both(u32::MAX), &both(u32::MAX)),
+    ]
 }
 
 /// The head of an open line, and a state that begins with so many words alike.

@@ -8,8 +8,8 @@ use compare::subject::Tally;
 use compare::words::{self, CARD, COUNT, HELD, LINE};
 
 /// Lengths on both sides of the right ones, and those of cards as they once were; none is right.
-const WORDS: [usize; 14] =
-    [0, 1, LINE, 192, 336, 345, CARD - LINE, COUNT, HELD, CARD - 1, CARD + 1, CARD + LINE, 2 * CARD, 4 * CARD];
+const WORDS: [usize; 15] =
+    [0, 1, LINE, 192, 336, 345, CARD - LINE, COUNT, HELD, 665, CARD - 1, CARD + 1, CARD + LINE, 2 * CARD, 4 * CARD];
 const PLACES: [usize; 6] = [0, 1, 2, 4, 5, CARD];
 
 /// Holds the linked card on every wrong length of the card, of counts and of both; the words are those of a card, of a

@@ -46,8 +46,14 @@ fn strike(random: &mut Random, card: &mut Vec<u32>) {
         2 => card.copy_within(LINE * one..LINE * (one + 1), LINE * other),
         3 => card[..COUNT].rotate_left(LINE * one),
         4 => card.rotate_left(random.size(0, CARD - 1)),
-        5 => card[HELD..].rotate_left(one),
-        6 => card[HELD + one] = card[HELD + other],
+        5 => {
+            let place = random.pick(&[COUNT, HELD]);
+            card[place..place + 8].rotate_left(one);
+        }
+        6 => {
+            let place = random.pick(&[COUNT, HELD]);
+            card[place + one] = card[place + other];
+        }
         7..=9 => {
             for _ in 0..random.size(1, 3) {
                 let place = random.size(COUNT, CARD - 1);

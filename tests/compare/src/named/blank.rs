@@ -118,7 +118,7 @@ fn not_looked_at(cipher: u8) -> Vec<Case> {
 fn resumed(cipher: u8) -> Case {
     let (key, iv) = lengths(cipher);
     let state = by_number(cipher).map_or(Vec::new(), |c| c.state_bytes(&c.init(&vec![0; key], &vec![0; iv])));
-    let resumed = altered::resumed(5, &images::image(cipher, 0, 1, &state));
+    let resumed = altered::resumed(5, &images::image(cipher, 0, (5, 1), &state));
     let commands = [resumed, vec![command::crypt(5, 33), command::park(5)]].concat();
     Case::new(format!("{}: S(0) of a key of zeros is resumed", name(cipher)), &commands, "end 5 0").data(vec![0; 33])
 }

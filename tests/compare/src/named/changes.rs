@@ -1,13 +1,12 @@
 //! Changes of key: the old keystream goes up to the change's position and the new one from there on, whether a frame
 //! spans the change, ends at it or begins there. A line's position is counted from its last change.
 
-use super::parks::{frames, park};
+use super::parks::{frames, head, park};
 use super::published::{self, text, Published};
 use super::script::{case, enciphered, joined, name, tray, Pair, Script, NEW};
 use super::Case;
 use crate::builder::Builder;
 use crate::command::{self, IMAGE, RECORD, STATE_AT};
-use crate::images::image;
 use crate::random::Random;
 
 pub fn cases() -> Vec<Case> {
@@ -113,7 +112,7 @@ fn dropped_before(p: &Pair, q: &Published) -> Case {
     let what = format!("dropped before {}", q.name());
     let case = case(p, &what, &[&waiting[..], &after].concat(), "end 10 0").data(vec![0; 7 + 2 * 32]);
     let (first, second) = (7 + 32, 7 + 32 + IMAGE + 32);
-    let case = case.part(0, &p[0].stream[..7]).part(7, &q.stream[..32]).part(first, &head(q, 32, 1));
+    let case = case.part(0, &p[0].stream[..7]).part(7, &q.stream[..32]).part(first, &head(q, 32, (1, 1)));
     case.same(state(first), state(second))
 }
 
@@ -127,11 +126,6 @@ fn on_one_of_two(p: &Pair) -> Case {
     case.out(&out)
 }
 
-/// The first bytes of an image: the cipher, the position and the number of the park.
-fn head(p: &Published, position: u64, number: u32) -> Vec<u8> {
-    image(p.cipher, position, number, &[])[..STATE_AT].to_vec()
-}
-
 /// Where the state is in an image that begins there in out.
 fn state(image: usize) -> std::ops::Range<usize> {
     image + STATE_AT..image + IMAGE
@@ -142,7 +136,7 @@ fn list(p: &Pair, data: Vec<u8>) -> Builder {
     Builder::new(Random::new(0, 0), tray(p), data)
 }
 
-/// A call parked after its change goes on in the new keystream; its image is, but for the number, that of a line which
+/// A call parked after its change goes on in the new keystream; its image is, but for the line, that of a line which
 /// was opened with that one.
 fn parked(p: &Pair) -> Case {
     let mut b = list(p, text(13 + 19 + 19));
@@ -157,7 +151,7 @@ fn parked(p: &Pair) -> Case {
     frames(&mut b, 5, &[19]);
     let case = Case::of(name(p, "parked after it"), b.files(), "end 9 0");
     let (frame, image) = (13 + IMAGE, 13 + IMAGE + 19);
-    let case = case.part(frame, &enciphered(&joined(p, 6, 13), 13)).part(image, &head(&p[1], 13, 2));
+    let case = case.part(frame, &enciphered(&joined(p, 6, 13), 13)).part(image, &head(&p[1], 13, (2, 1)));
     case.same(state(13), state(image)).part(image + IMAGE, &enciphered(&p[1].stream[13..32], 13 + 19))
 }
 
@@ -169,7 +163,7 @@ fn parked_as_it_comes_due(p: &Pair) -> Case {
     let beside = [p[1].open(0), command::park(0)];
     let case = case(p, "parked as it comes due", &[&at_once[..], &at_the_end, &beside].concat(), "end 10 0");
     let [one, two, three] = [5, 5 + IMAGE + 7, 5 + IMAGE + 7 + IMAGE];
-    let case = case.data(vec![0; 12]).part(one, &head(&p[1], 0, 1)).part(two, &head(&p[1], 0, 2));
+    let case = case.data(vec![0; 12]).part(one, &head(&p[1], 0, (2, 1))).part(two, &head(&p[1], 0, (3, 1)));
     case.same(state(three), state(one)).same(state(three), state(two))
 }
 

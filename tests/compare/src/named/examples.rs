@@ -64,10 +64,10 @@ fn by_all(name: String, p: &Published) -> Case {
 /// A keystream of a key of zeros: both opens and a load refuse the key; an image with S(0), which is no key, goes on with the
 /// keystream.
 fn blank(name: &str, p: &Published) -> [Case; 4] {
-    let (count, image) = (p.stream.len(), images::image(p.cipher, 0, 1, &start(p)));
+    let (count, image) = (p.stream.len(), images::image(p.cipher, 0, (1, 1), &start(p)));
     let resumed = [altered::resumed(1, &image), vec![command::crypt(1, count as u16)]].concat();
     let refused = |how: &str, open: Vec<u8>| Case::new(format!("{name}, {how}: number 16"), &[open], "end 0 16");
-    let out = [altered::written(1), p.stream.clone()].concat();
+    let out = [altered::written((1, 1)), p.stream.clone()].concat();
     [
         refused("the command's own key", p.open(0)),
         refused("the tray's key", p.open_tray(1, 0)).tray(p.key.clone()),
@@ -92,7 +92,7 @@ fn state(number: usize, row: &Row) -> Option<Case> {
     let before = unit(row.cipher) * usize::from(index[0]);
     let open = command::open_own(6, row.cipher, &padded(key, RECORD), &padded(iv, command::IV));
     let commands = [open, command::crypt(6, before as u16), command::park(6)];
-    let image = images::image(row.cipher, before as u64, 1, state);
+    let image = images::image(row.cipher, before as u64, (6, 1), state);
     let case = Case::new(format!("state {number} of annex C, {}", row.clause), &commands, "end 3 0");
     Some(case.data(vec![0; before]).part(before, &image))
 }
@@ -101,14 +101,14 @@ fn state(number: usize, row: &Row) -> Option<Case> {
 /// IV for which the first INIT step would feed back 0.
 fn zero_cells() -> [Case; 2] {
     let cells = [0x7F, 0xFF, 0xFF, 0xFF].repeat(16);
-    let resumed = altered::resumed(0, &images::image(1, 0, 1, &cells));
+    let resumed = altered::resumed(0, &images::image(1, 0, (0, 1), &cells));
     let ordinary = [&resumed[..], &[command::crypt(0, 4), command::park(0)]].concat();
     let (key, iv) = zeros::key_and_iv(&mut Random::new(0, 0));
     let init = [command::open_own(0, 1, &padded(&key, RECORD), &iv), command::crypt(0, 64), command::park(0)];
     [
         Case::new("ZUC: cells of 2^31 - 1 feed back 2^31 - 1", &ordinary, "end 5 0")
             .data(vec![0; 4])
-            .part(IMAGE + 4, &images::image(1, 4, 2, &cells)[..STATE_AT + 64]),
+            .part(IMAGE + 4, &images::image(1, 4, (0, 2), &cells)[..STATE_AT + 64]),
         Case::new("ZUC: a key and IV whose first INIT step would feed back 0", &init, "end 3 0").data(vec![0; 64]),
     ]
 }

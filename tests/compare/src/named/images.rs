@@ -3,12 +3,12 @@
 use super::published::name;
 use super::{altered, Case};
 use crate::cipher::{by_number, LAST};
-use crate::command::{self, numbered, IMAGE, STATE_AT};
+use crate::command::{self, from_line, numbered, of_park, Park, IMAGE, LINE_AT, STATE_AT};
 use crate::images::image;
 use crate::machine::END;
 
 pub fn cases() -> Vec<Case> {
-    let groups = [taken(), greatest_and_least(), ciphers(), positions(), padding(), cells(), carries()];
+    let groups = [taken(), greatest_and_least(), ciphers(), positions(), padding(), cells(), carries(), lines()];
     groups.into_iter().flatten().collect()
 }
 
@@ -17,22 +17,25 @@ fn length(cipher: u8) -> usize {
     by_number(cipher).map_or(0, |c| c.shape().state)
 }
 
-/// A well-formed image with number 1: every byte of the state is 1.
+/// The park that the images are of.
+const PARK: Park = (2, 1);
+
+/// A well-formed image: every byte of the state is 1.
 fn good(cipher: u8) -> Vec<u8> {
-    image(cipher, 5, 1, &vec![1; length(cipher)])
+    image(cipher, 5, PARK, &vec![1; length(cipher)])
 }
 
-/// A park, a resume with its number that is accepted, and a park that gives the image back with the next number.
+/// A park, a resume of it that is accepted, and a park that gives the image back with the next number.
 fn accepted(what: String, image: &[u8]) -> Case {
     let commands = [altered::resumed(2, image), vec![command::park(2)]].concat();
-    let out = [altered::written(1), numbered(image, 2)].concat();
+    let out = [altered::written(PARK), numbered(image, 2)].concat();
     Case::new(format!("image taken: {what}"), &commands, "end 4 0").out(&out)
 }
 
-/// A park, a resume with its number that is refused, and a close that isn't run.
+/// A park, a resume of it that is refused, and a close that isn't run.
 fn refused(what: String, image: &[u8]) -> Case {
-    let commands = [altered::resumed(2, image), vec![command::close(2)]].concat();
-    Case::new(format!("number 8: {what}"), &commands, "end 2 8").out(&altered::written(1))
+    let commands = [&altered::parked(2)[..], &[command::resume(2, image), command::close(2)]].concat();
+    Case::new(format!("number 8: {what}"), &commands, "end 2 8").out(&altered::written(PARK))
 }
 
 /// The image with some of its bytes replaced.
@@ -48,8 +51,8 @@ fn taken() -> Vec<Case> {
 /// States at the ends of their ranges.
 fn greatest_and_least() -> Vec<Case> {
     let (least, greatest) = ([0, 0, 0, 1].repeat(16), [0x7F, 0xFF, 0xFF, 0xFF].repeat(16));
-    let zuc = |cells: &[u8], register: u8| image(1, END, 1, &[cells, &[register; 8]].concat());
-    let rabbit = |byte: u8, carry: u8| image(2, END, 1, &[&[byte; 64], &[carry][..]].concat());
+    let zuc = |cells: &[u8], register: u8| image(1, END, PARK, &[cells, &[register; 8]].concat());
+    let rabbit = |byte: u8, carry: u8| image(2, END, PARK, &[&[byte; 64], &[carry][..]].concat());
     let mut all = vec![
         accepted("ZUC with cells of 1".into(), &zuc(&least, 0)),
         accepted("ZUC with cells of 2^31 - 1".into(), &zuc(&greatest, 0xFF)),
@@ -57,15 +60,15 @@ fn greatest_and_least() -> Vec<Case> {
         accepted("Rabbit with all bits set and carry 1".into(), &rabbit(0xFF, 1)),
     ];
     for cipher in 3..=LAST {
-        all.push(accepted(format!("{} of zeros", name(cipher)), &image(cipher, 0, 1, &[])));
+        all.push(accepted(format!("{} of zeros", name(cipher)), &image(cipher, 0, PARK, &[])));
         let ones = vec![0xFF; length(cipher)];
-        all.push(accepted(format!("{} with all bits set", name(cipher)), &image(cipher, 0, 1, &ones)));
+        all.push(accepted(format!("{} with all bits set", name(cipher)), &image(cipher, 0, PARK, &ones)));
     }
     all
 }
 
 fn ciphers() -> Vec<Case> {
-    let of = |cipher: u8| refused(format!("cipher {cipher}"), &image(cipher, 0, 1, &[]));
+    let of = |cipher: u8| refused(format!("cipher {cipher}"), &image(cipher, 0, PARK, &[]));
     [0, 7, 8, 128, 255].map(of).into()
 }
 
@@ -110,4 +113,30 @@ fn carries() -> Vec<Case> {
     let over = [2, 3, 128, 255].map(|carry| refused(format!("Rabbit, the carry is {carry}"), &of(carry)));
     let good = [0, 1].map(|carry| accepted(format!("Rabbit, the carry is {carry}"), &of(carry)));
     over.into_iter().chain(good).collect()
+}
+
+/// Lines over 7, by each cipher, on a card that holds number 1 of each line: with that number, with 0 and with another one,
+/// for 8 comes before 14; and each line up to 7, whose image is taken on the last of them.
+fn lines() -> Vec<Case> {
+    let parks: Vec<Vec<u8>> = (0..8).flat_map(altered::parked).collect();
+    let written: Vec<u8> = (0..8).flat_map(|line| altered::written((line, 1))).collect();
+    let on_all = |what: String, image: &[u8], end: &str| {
+        Case::new(what, &[&parks[..], &[command::resume(7, image)]].concat(), end).out(&written)
+    };
+    let mut all = Vec::new();
+    for cipher in 1..=LAST {
+        let over = [8, 9, 15, 16, 127, 128, 129, 255].map(|line| with(good(cipher), LINE_AT, &[line]));
+        all.extend(
+            over.map(|image| refused(format!("{}, a parking line of {}", name(cipher), image[LINE_AT]), &image)),
+        );
+        for line in 0..8 {
+            let what = format!("image taken: {}, a parking line of {line}", name(cipher));
+            all.push(on_all(what, &from_line(&good(cipher), line), "end 17 0"));
+        }
+    }
+    for (line, number) in [(8, 1), (8, 0), (8, 2), (10, 1), (249, 1), (255, 0), (255, u32::MAX)] {
+        let what = format!("number 8: a parking line of {line}, number {number}");
+        all.push(on_all(what, &of_park(&good(3), (line, number)), "end 16 8"));
+    }
+    all
 }

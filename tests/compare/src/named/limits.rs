@@ -53,7 +53,7 @@ fn tray_lengths() -> Vec<Case> {
 
 /// Only commands 01, 07 and 08 look at the tray.
 fn no_tray_needed() -> Vec<Case> {
-    let resume = command::resume(1, &image(4, 0, 1, &[]));
+    let resume = command::resume(1, &image(4, 0, (0, 1), &[]));
     let commands = [open(0), command::crypt(0, 0), command::park(0), resume, command::close(1)];
     let of = |length: usize| Case::new(format!("tray of {length} and no open from it"), &commands, "end 5 0");
     [1, 8_193, 8_224].map(|length| of(length).tray(vec![0; length])).into()

@@ -132,7 +132,7 @@ fn again(p: &Pair) -> Vec<Case> {
 fn parks(p: &Pair) -> Vec<Case> {
     let between = [p[0].load(3, OLD), p[0].start(3), command::close(3)];
     let of = |what: &str, between: &[Vec<u8>]| {
-        let resumed = command::resume(6, &altered::written(1));
+        let resumed = command::resume(6, &altered::written((3, 1)));
         accepted(p, what, &[&altered::parked(3)[..], between, &[resumed]].concat())
     };
     vec![
@@ -152,7 +152,7 @@ fn loaded(p: &Pair) -> Vec<Case> {
         (5, "an open from the tray", other.open_tray(2, NEW)),
         (5, "an open from the tray with the same key", one.open_tray(2, OLD)),
         (5, "an open with its own key", other.open(2)),
-        (5, "a resume", command::resume(2, &altered::written(1))),
+        (5, "a resume", command::resume(2, &altered::written((2, 1)))),
         (5, "a second load", other.load(2, NEW)),
         (5, "the same load again", one.load(2, OLD)),
         (6, "a crypt of no bytes", command::crypt(2, 0)),
@@ -201,7 +201,7 @@ fn not_loaded(p: &Pair) -> Vec<Case> {
     let of = |what: &str, before: &[Vec<u8>], last: Vec<u8>| refused(p, 19, what, before, last).data(vec![0; 40]);
     let parked = [one.open(2), command::park(2)];
     let waiting = [one.open(2), other.change(2, NEW, 9)];
-    let resumed = altered::resumed(2, &altered::written(1));
+    let resumed = altered::resumed(2, &altered::written((2, 1)));
     let after = |before: &[Vec<u8>], last: Vec<u8>| [before, &[last]].concat();
     vec![
         of("a start of an idle line", &[], start()),
@@ -228,7 +228,7 @@ fn open(p: &Pair) -> Vec<Case> {
         of("a load of a line opened from the tray", &[one.open_tray(2, OLD)]),
         of("a load of a line opened with its own key", &[one.open(2)]),
         of("a load of a line behind its first byte", &[one.open(2), command::crypt(2, 40)]),
-        of("a load of a line that was resumed", &altered::resumed(2, &altered::written(1))),
+        of("a load of a line that was resumed", &altered::resumed(2, &altered::written((2, 1)))),
         of("a load of a line that was started", &[one.load(2, OLD), one.start(2)]),
         of("a load where a change waits", &[one.open(2), other.change(2, NEW, 9)]),
     ]

@@ -5,7 +5,7 @@ use super::parks::{frames, list, park};
 use super::published::{self, Published};
 use super::{altered, full, positions, Case};
 use crate::builder::Builder;
-use crate::command::{self, numbered, IMAGE, NUMBER_AT};
+use crate::command::{self, of_park, park_of, Park, IMAGE, NUMBER_AT};
 
 pub fn cases() -> Vec<Case> {
     let all = published::each();
@@ -17,18 +17,18 @@ pub fn cases() -> Vec<Case> {
 }
 
 /// A case whose last command is a resume of an image, on an idle line, after others that are accepted.
-fn last(name: String, mut b: Builder, line: u8, image: &[u8], accepted: usize, code: u8) -> Case {
+pub fn last(name: String, mut b: Builder, line: u8, image: &[u8], accepted: usize, code: u8) -> Case {
     b.put(&command::resume(line, image));
     Case::of(name, b.files(), format!("end {accepted} {code}"))
 }
 
-/// A well-formed image with a number.
-fn some(number: u32) -> Vec<u8> {
-    numbered(&positions::image(3, 5), number)
+/// A well-formed image of a park.
+pub fn some(park: Park) -> Vec<u8> {
+    of_park(&positions::image(3, 5), park)
 }
 
 /// Opens a line, enciphers a frame on it and parks it; gives the image.
-fn parked(b: &mut Builder, p: &Published, line: u8, count: u16) -> Vec<u8> {
+pub fn parked(b: &mut Builder, p: &Published, line: u8, count: u16) -> Vec<u8> {
     b.put(&p.open(line));
     frames(b, line, &[count]);
     park(b, line)
@@ -36,37 +36,37 @@ fn parked(b: &mut Builder, p: &Published, line: u8, count: u16) -> Vec<u8> {
 
 /// Images for a fresh card.
 fn not_parked() -> Vec<Case> {
-    let of = |number: u32| last(format!("number 14: {number} and no park"), list(vec![]), 3, &some(number), 0, 14);
+    let of = |number: u32| last(format!("number 14: {number} and no park"), list(vec![]), 3, &some((3, number)), 0, 14);
     [1, 2, 256, 1 << 24, 1 << 31, u32::MAX].map(of).into()
 }
 
-/// Number 0, on a fresh card, with a number held and with one held for each line.
+/// Number 0, on a fresh card, with a number held and with one held of each line.
 fn zero() -> Vec<Case> {
     let of = |lines: u8| {
         let mut commands: Vec<Vec<u8>> = (0..lines).flat_map(altered::parked).collect();
-        commands.push(command::resume(2, &some(0)));
+        commands.push(command::resume(2, &some((0, 0))));
         let name = format!("number 14: number 0 with {lines} held");
-        let written: Vec<u8> = (1..=lines.into()).flat_map(altered::written).collect();
+        let written: Vec<u8> = (0..lines).flat_map(|line| altered::written((line, 1))).collect();
         Case::new(name, &commands, format!("end {} 14", 2 * lines)).out(&written)
     };
     [0, 1, 8].map(of).into()
 }
 
-/// Numbers above a count of three, some of which have a held one in some of their bytes.
+/// Numbers above a line's count of three, some of which have the held one in some of their bytes.
 fn above() -> Vec<Case> {
-    let before: Vec<Vec<u8>> = [5, 1, 6].into_iter().flat_map(altered::parked).collect();
+    let before: Vec<Vec<u8>> = [5, 5, 5].into_iter().flat_map(altered::parked).collect();
     let of = |number: u32| {
-        let commands = [&before[..], &[command::resume(2, &some(number))]].concat();
+        let commands = [&before[..], &[command::resume(2, &some((5, number)))]].concat();
         Case::new(format!("number 14: {number} after three parks"), &commands, "end 6 14")
     };
     [4, 5, 0x0103, 0x0001_0003, 0x0100_0003, 0x0300_0000, 0x0003_0000, 0x0303_0303, u32::MAX].map(of).into()
 }
 
-/// The 257th park has two bytes of its number in use; the one before it is replaced.
+/// The 257th park of a line has two bytes of its number in use; the one before it is replaced.
 fn counted() -> Vec<Case> {
     let of = |number: u32, code: u8| {
         let name = format!("number {number} after 257 parks of a line");
-        let commands = [full::parks(257), vec![command::resume(4, &some(number))]].concat();
+        let commands = [full::parks(257), vec![command::resume(4, &some((0, number)))]].concat();
         let end = format!("end {} {code}", 514 + usize::from(code == 0));
         let numbers = [(1, [0, 0, 0, 1]), (255, [0, 0, 0, 255]), (256, [0, 0, 1, 0]), (257, [0, 0, 1, 1])];
         let case = Case::new(name, &commands, end).tray(full::tray());
@@ -105,12 +105,12 @@ fn last_of_three(p: &Published) -> Case {
     case.part(14 + 3 * IMAGE, &p.stream[6..32])
 }
 
-/// An image with a number that was taken up, and another position, state and cipher.
+/// An image of a park that was taken up, and another position, state and cipher.
 fn taken_altered(p: &Published) -> Case {
     let mut b = list(vec![0; 9]);
     let image = parked(&mut b, p, 3, 9);
     b.put(&command::resume(3, &image));
-    last(format!("{}: number 14, another image with a number taken up", p.name()), b, 5, &some(1), 4, 14)
+    last(format!("{}: number 14, another image of a park taken up", p.name()), b, 5, &some((3, 1)), 4, 14)
 }
 
 /// A line parked, taken up and parked again: the second image goes on, and the first is not taken again.
@@ -158,16 +158,16 @@ fn not_the_resuming_lines(p: &Published) -> Case {
     case.part(12 + 2 * IMAGE, &p.stream[7..32])
 }
 
-/// Two calls parked, and the image of the first with the number of the second: it goes on from what it holds, and the
-/// second call's number is taken up.
+/// Two calls parked, and the image of the first with the line and the number of the second: it goes on from what it
+/// holds, and the second call's number is taken up.
 fn exchanged(p: &Published) -> Case {
     let mut b = list(vec![0; 64]);
     let (one, two) = (parked(&mut b, p, 1, 5), parked(&mut b, p, 2, 7));
-    b.put(&command::resume(3, &numbered(&one, 2)));
+    b.put(&command::resume(3, &of_park(&one, park_of(&two))));
     frames(&mut b, 3, &[11]);
     b.put(&command::resume(4, &one));
     frames(&mut b, 4, &[13]);
-    let case = last(format!("{}: an image with the number of another", p.name()), b, 5, &two, 10, 14);
+    let case = last(format!("{}: an image with the line and number of another", p.name()), b, 5, &two, 10, 14);
     let at = 12 + 2 * IMAGE;
     case.part(at, &p.stream[5..16]).part(at + 11, &p.stream[5..18])
 }

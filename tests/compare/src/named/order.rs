@@ -12,7 +12,7 @@ use super::published::name;
 use super::refusals::open;
 use super::{altered, full, positions, Case};
 use crate::cipher::LAST;
-use crate::command::{self, numbered, padded, IMAGE, RECORD};
+use crate::command::{self, from_line, numbered, of_park, padded, IMAGE, RECORD};
 use crate::machine::END;
 
 pub fn cases() -> Vec<Case> {
@@ -89,30 +89,30 @@ fn own() -> Vec<Case> {
     ]
 }
 
-/// On a card with 31 bytes left of out and 40 of data, line 0 open at its first byte and line 6 one byte before the
+/// On a card with 132 bytes left of out and 140 of data, line 0 open at its first byte and line 6 one byte before the
 /// end.
 fn crypt() -> Vec<Case> {
-    let far = command::resume(6, &numbered(&positions::image(3, END - 1), full::PARKS as u32));
+    let far = command::resume(6, &of_park(&positions::image(3, END - 1), (0, full::PARKS as u32)));
     let after = |name: &str, last: Vec<u8>, code: u8| {
         let accepted = full::PARKS * 2 + 2 + usize::from(code == 0);
         let commands = [full::parks(full::PARKS), vec![full::open(0), far.clone(), last]].concat();
         let case = Case::new(format!("order: crypt, {name}"), &commands, format!("end {accepted} {code}"));
-        case.tray(full::tray()).data(vec![0; 40])
+        case.tray(full::tray()).data(vec![0; 140])
     };
     vec![
-        after("2, 1, 3, 11, 12", cut(unknown(command::crypt(8, 50))), 2),
-        after("1, 3, 11, 12", cut(command::crypt(8, 50)), 1),
-        after("3, 11, 12", command::crypt(8, 50), 3),
-        after("6, 11, 12", command::crypt(1, 50), 6),
-        after("13, 11, 12", command::crypt(6, 50), 13),
-        after("13, 12", command::crypt(6, 40), 13),
-        after("11, 12", command::crypt(0, 41), 11),
-        after("12", command::crypt(0, 40), 12),
-        after("all mended", command::crypt(0, 31), 0),
+        after("2, 1, 3, 11, 12", cut(unknown(command::crypt(8, 150))), 2),
+        after("1, 3, 11, 12", cut(command::crypt(8, 150)), 1),
+        after("3, 11, 12", command::crypt(8, 150), 3),
+        after("6, 11, 12", command::crypt(1, 150), 6),
+        after("13, 11, 12", command::crypt(6, 150), 13),
+        after("13, 12", command::crypt(6, 140), 13),
+        after("11, 12", command::crypt(0, 141), 11),
+        after("12", command::crypt(0, 140), 12),
+        after("all mended", command::crypt(0, 132), 0),
     ]
 }
 
-/// On a card with line 0 open and 31 bytes left of out, too few for an image; mended, with 196 left.
+/// On a card with line 0 open and 132 bytes left of out, too few for an image; mended, with 298 left.
 fn park() -> Vec<Case> {
     let after = |name: &str, parks: usize, last: Vec<u8>, code: u8| {
         let accepted = parks * 2 + 1 + usize::from(code == 0);
@@ -131,19 +131,22 @@ fn park() -> Vec<Case> {
 }
 
 fn resume() -> Vec<Case> {
-    let (bad, good) = (vec![0; IMAGE], positions::image(3, 0));
+    let (bad, good) = (vec![0; IMAGE], from_line(&positions::image(3, 0), 5));
     vec![
         held("resume, 2, 1, 3, 8, 14", cut(unknown(command::resume(8, &bad))), 2),
         held("resume, 1, 3, 8, 14", cut(command::resume(8, &bad)), 1),
         held("resume, 3, 8, 14", command::resume(8, &bad), 3),
         held("resume, 5, 8, 14", command::resume(0, &bad), 5),
         held("resume, 8, 14, and never 4", command::resume(1, &bad), 8),
+        held("resume, 8 by the line, 14", command::resume(1, &of_park(&good, (13, 0))), 8),
+        held("resume, 8 by the line", command::resume(1, &from_line(&good, 13)), 8),
         held("resume, 14", command::resume(1, &numbered(&good, 0)), 14),
+        held("resume, 14 by the line", command::resume(1, &from_line(&good, 4)), 14),
         held("resume, all mended", command::resume(1, &good), 0),
     ]
 }
 
-/// A case on a card whose line 0 is open, and that holds number 1 for line 5.
+/// A case on a card whose line 0 is open, and that holds number 1 of line 5.
 fn held(name: &str, last: Vec<u8>, code: u8) -> Case {
     let accepted = if code == 0 { 4 } else { 3 };
     let commands = [&[open(0)], &altered::parked(5)[..], &[last]].concat();
@@ -176,9 +179,11 @@ fn pairs() -> Vec<Case> {
     ]
 }
 
-/// Bad images with a held number, good ones with one that isn't, and one with both faults.
+/// Bad images of a park that is held, good ones of one that isn't, good ones but for a line over 7, and some with both
+/// faults.
 fn pairs_of_images() -> Vec<Case> {
-    let (bad, good) = (numbered(&[0xFF; IMAGE], 1), numbered(&positions::image(3, 0), 2));
+    let (bad, good) = (of_park(&[0xFF; IMAGE], (5, 1)), of_park(&positions::image(3, 0), (5, 2)));
+    let over = |number: u32| of_park(&good, (8, number));
     vec![
         held("1 for cut short before 8", cut(command::resume(1, &bad)), 1),
         held("3 before 8", command::resume(9, &bad), 3),
@@ -187,6 +192,11 @@ fn pairs_of_images() -> Vec<Case> {
         held("3 before 14", command::resume(9, &good), 3),
         held("5 before 14", command::resume(0, &good), 5),
         held("8 before 14", command::resume(1, &numbered(&bad, 2)), 8),
+        held("1 for cut short before 8, a line over 7", cut(command::resume(1, &over(1))), 1),
+        held("3 before 8, a line over 7", command::resume(9, &over(1)), 3),
+        held("5 before 8, a line over 7", command::resume(0, &over(1)), 5),
+        held("8 before 14, a line over 7", command::resume(1, &over(2)), 8),
+        held("8 before 14, a line over 7 and number 0", command::resume(1, &over(0)), 8),
     ]
 }
 

@@ -4,7 +4,7 @@
 use super::published::{self, text, Published};
 use super::Case;
 use crate::builder::Builder;
-use crate::command::{self, IMAGE, STATE_AT};
+use crate::command::{self, Park, IMAGE, STATE_AT};
 use crate::images::image;
 use crate::random::Random;
 
@@ -46,9 +46,9 @@ fn carry(b: &mut Builder, from: u8, to: u8) {
     b.put(&command::resume(to, &image));
 }
 
-/// The first bytes of an image: the cipher, the position and the number of the park.
-fn head(p: &Published, position: usize, number: u32) -> Vec<u8> {
-    image(p.cipher, position as u64, number, &[])[..STATE_AT].to_vec()
+/// The first bytes of an image: the cipher, the position and the park.
+pub fn head(p: &Published, position: usize, park: Park) -> Vec<u8> {
+    image(p.cipher, position as u64, park, &[])[..STATE_AT].to_vec()
 }
 
 /// Annex C's keystream with a park in it, the frames before and after together 32 bytes.
@@ -61,7 +61,7 @@ fn once(p: &Published, what: &str, before: &[u16], after: &[u16]) -> Case {
     let parked: usize = before.iter().sum::<u16>().into();
     let end = format!("end {} 0", 3 + before.len() + after.len());
     let case = Case::of(format!("{}: parked {what}, resumed on another line", p.name()), b.files(), end);
-    let case = case.part(0, &p.stream[..parked]).part(parked, &head(p, parked, 1));
+    let case = case.part(0, &p.stream[..parked]).part(parked, &head(p, parked, (0, 1)));
     case.part(parked + IMAGE, &p.stream[parked..32])
 }
 
@@ -77,9 +77,9 @@ fn everywhere(p: &Published) -> Case {
         b.put(&command::close(other));
     }
     let mut case = Case::of(format!("{}: parked after each of 0 to 32 bytes", p.name()), b.files(), "end 198 0");
-    for (parked, number) in (0..=32).zip(1..) {
+    for (parked, park) in (0..=32).zip((1..).flat_map(|number| (0..8).map(move |line| (line, number)))) {
         let at = parked * (32 + IMAGE);
-        case = case.part(at, &p.stream[..parked]).part(at + parked, &head(p, parked, number));
+        case = case.part(at, &p.stream[..parked]).part(at + parked, &head(p, parked, park));
         case = case.part(at + parked + IMAGE, &p.stream[parked..32]);
     }
     case
@@ -102,9 +102,9 @@ fn over_and_over(p: &Published) -> Case {
     let name = format!("{}: parked three times, against one crypt", p.name());
     let mut case = Case::of(name, b.files(), "end 21 0");
     let (mut at, mut pieces) = (700, Vec::new());
-    for (from, parked, number) in [(0, 181, 1), (181, 256, 2), (256, 411, 3)] {
+    for (from, parked, line) in [(0, 181, 0), (181, 256, 3), (256, 411, 4)] {
         let image = at + parked - from;
-        case = case.part(image, &head(p, parked, number));
+        case = case.part(image, &head(p, parked, (line, 1)));
         pieces.push(at..image);
         at = image + IMAGE;
     }

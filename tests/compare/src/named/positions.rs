@@ -37,9 +37,9 @@ pub fn last_four(cipher: u8) -> [u8; 4] {
     state(cipher).1
 }
 
-/// An image of the cipher with that state at a position, and with number 1.
+/// An image of the cipher with that state at a position, of the first park of line 3.
 pub fn image(cipher: u8, position: u64) -> Vec<u8> {
-    images::image(cipher, position, 1, &state(cipher).0)
+    images::image(cipher, position, (3, 1), &state(cipher).0)
 }
 
 /// A case that resumes on line 3 at a position and goes on with counts there.
@@ -51,7 +51,7 @@ fn from(position: u64, cipher: u8, what: &str, counts: &[u16], end: &str) -> Cas
 
 /// What such a case writes, with these bytes after the resume.
 fn after(bytes: &[u8]) -> Vec<u8> {
-    [&altered::written(1), bytes].concat()
+    [&altered::written((3, 1)), bytes].concat()
 }
 
 /// The bytes before 2^36.
@@ -72,7 +72,7 @@ fn last_bytes(cipher: u8) -> Vec<Case> {
 /// 2^36 itself, by an altered image and by one that a park wrote there.
 fn end(cipher: u8) -> Vec<Case> {
     let four = state(cipher).1;
-    let head = [&[cipher, 0, 0, 0, 0x10], &[0; 7][..], &[2]].concat();
+    let head = [&[cipher, 0, 0, 0, 0x10], &[0; 4][..], &[3, 0, 0, 0, 2]].concat();
     let frame = vec![command::crypt(3, 1), command::park(3)];
     let commands = [altered::resumed(3, &image(cipher, END - 1)), frame].concat();
     let parked = Case::new(format!("{}: parked at 2^36", name(cipher)), &commands, "end 5 0").data(vec![0; 1]);
@@ -96,17 +96,16 @@ fn far(cipher: u8) -> Vec<Case> {
 /// 37 bytes in three frames from a position, parked; and the same from the place that it has within a unit.
 fn beside_a_small_one(cipher: u8, position: u64) -> Case {
     let small = position % unit(cipher) as u64;
-    let on = |line: u8, from: u64, number: u32| {
+    let on = |line: u8, from: u64| {
         let frames = [5, 1, 31].map(|count| command::crypt(line, count));
-        let resumed = altered::resumed(line, &numbered(&image(cipher, from), number));
-        [resumed, frames.into(), vec![command::park(line)]].concat()
+        [altered::resumed(line, &image(cipher, from)), frames.into(), vec![command::park(line)]].concat()
     };
     let text = published::text(37).repeat(2);
     let name = format!("{}: on from n = {position}", name(cipher));
-    let case = Case::new(name, &[on(0, position, 1), on(1, small, 3)].concat(), "end 14 0").data(text);
-    let head = |from: u64, number: u8| [&[cipher], &(from + 37).to_be_bytes()[..], &[0, 0, 0, number]].concat();
+    let case = Case::new(name, &[on(0, position), on(1, small)].concat(), "end 14 0").data(text);
+    let head = |from: u64, line: u8| [&[cipher], &(from + 37).to_be_bytes()[..], &[line, 0, 0, 0, 2]].concat();
     let (parked, second) = (IMAGE + 37, 2 * IMAGE + 37);
-    let case = case.part(parked, &head(position, 2)).part(second + parked, &head(small, 4));
+    let case = case.part(parked, &head(position, 0)).part(second + parked, &head(small, 1));
     let state = parked + STATE_AT;
     case.same(IMAGE..parked, second + IMAGE..second + parked).same(state..second, second + state..2 * second)
 }

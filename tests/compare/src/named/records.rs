@@ -70,7 +70,7 @@ fn between(cipher: u8) -> Case {
 
 /// A line that is taken up on another one has the image's cipher and its own number.
 fn taken_up(cipher: u8) -> Case {
-    let image = positions::image(cipher, 9);
+    let image = command::from_line(&positions::image(cipher, 9), 6);
     let commands = [
         &altered::parked(6)[..],
         &[command::resume(1, &image), command::crypt(1, 4), opened(6, 2), command::crypt(6, 3), command::crypt(1, 2)],
@@ -121,8 +121,9 @@ fn refused() -> Vec<Case> {
         let end = format!("end {} {code}", 2 + more.len());
         case(format!("then {what}"), &[&before[..], more].concat(), &end, &[record(0, 4, 5), record(0, 4, 0)])
     };
-    let late = [&altered::parked(1)[..], &[command::resume(1, &positions::image(6, END - 1)), crypt(1, 2)]].concat();
-    let parks = [vec![open(7), crypt(7, 5)], full::parks(full::PARKS), vec![crypt(7, 27)]].concat();
+    let end = command::from_line(&positions::image(6, END - 1), 1);
+    let late = [&altered::parked(1)[..], &[command::resume(1, &end), crypt(1, 2)]].concat();
+    let parks = [vec![open(7), crypt(7, 5)], full::parks(full::PARKS), vec![crypt(7, 128)]].concat();
     vec![
         of("a crypt on line 8", &[crypt(8, 0)], 3),
         of("a crypt on an idle line", &[crypt(1, 0)], 6),
@@ -134,13 +135,13 @@ fn refused() -> Vec<Case> {
         of("a crypt that is cut short", &[vec![3, 0, 0]], 1),
         of("an open of an open line", &[open(0)], 5),
         of("an unknown command", &[vec![10]], 2),
-        case("then a crypt that out has no room for", &parks, "end 796 12", &[record(7, 4, 5)]).tray(full::tray()),
+        case("then a crypt that out has no room for", &parks, "end 790 12", &[record(7, 4, 5)]).tray(full::tray()),
     ]
 }
 
 /// Runs without an accepted crypt append nothing and make no file.
 fn none() -> Vec<Case> {
-    let image = positions::image(1, 9);
+    let image = command::from_line(&positions::image(1, 9), 6);
     let others = [
         &altered::parked(6)[..],
         &[command::resume(1, &image), change(1, 9), command::park(1), command::load(2, 2, 0)],

@@ -7,10 +7,10 @@
 use super::published::name;
 use super::{altered, full, positions, Case};
 use crate::cipher::LAST;
-use crate::command::{self, padded, IMAGE, NUMBER_AT, RECORD, STATE_AT};
+use crate::command::{self, padded, IMAGE, LINE_AT, NUMBER_AT, RECORD, STATE_AT};
 
 pub fn cases() -> Vec<Case> {
-    let read = [numbers(), cut_short(), short_images(), images_without_a_number(), unknown(), lines(), ciphers()];
+    let read = [numbers(), cut_short(), short_images(), images_of_before(), unknown(), lines(), ciphers()];
     let judged = [open_or_idle(), stray(), trays(), data()];
     read.into_iter().chain(judged).flatten().collect()
 }
@@ -52,8 +52,8 @@ const EIGHT: &str = "call code cmd data out\n1 8 0 0 0\nend 0 8\n";
 const NINE: &str = "call code cmd data out\n1 9 0 0 0\nend 0 9\n";
 const TEN: &str = "call code cmd data out\n1 10 0 0 0\nend 0 10\n";
 const ELEVEN: &str = "call code cmd data out\n1 0 51 0 0\n2 11 0 0 0\nend 1 11\n";
-const THIRTEEN: &str = "call code cmd data out\n1 0 51 0 0\n2 0 2 0 165\n3 0 167 0 0\n4 13 0 0 0\nend 3 13\n";
-const FOURTEEN: &str = "call code cmd data out\n1 0 51 0 0\n2 0 2 0 165\n3 0 167 0 0\n4 14 0 0 0\nend 3 14\n";
+const THIRTEEN: &str = "call code cmd data out\n1 0 51 0 0\n2 0 2 0 166\n3 0 168 0 0\n4 13 0 0 0\nend 3 13\n";
+const FOURTEEN: &str = "call code cmd data out\n1 0 51 0 0\n2 0 2 0 166\n3 0 168 0 0\n4 14 0 0 0\nend 3 14\n";
 const SIXTEEN: &str = "call code cmd data out\n1 16 0 0 0\nend 0 16\n";
 const SEVENTEEN: &str = "call code cmd data out\n1 0 51 0 0\n2 0 27 0 0\n3 17 0 0 0\nend 2 17\n";
 const EIGHTEEN: &str = "call code cmd data out\n1 0 51 0 0\n2 0 27 0 0\n3 18 0 0 0\nend 2 18\n";
@@ -65,7 +65,7 @@ fn numbers() -> Vec<Case> {
     let from_tray = || command::open_tray(0, 1, 0, &[0; 16]);
     let one = || vec![1; RECORD];
     let far = altered::resumed(0, &positions::image(3, (1 << 36) - 1));
-    let again = command::resume(7, &altered::written(1));
+    let again = command::resume(7, &altered::written((0, 1)));
     let change = |position: u64| command::change_key(0, 0, &[0; 16], position);
     let start = || command::start(0, &[0; 16]);
     vec![
@@ -83,7 +83,8 @@ fn numbers() -> Vec<Case> {
         refused(11, "a byte asked for and none there", &[open(0)], vec![3, 0, 0, 1]).table(ELEVEN),
         full::by_parks(),
         refused(13, "two bytes and one left", &far, vec![3, 0, 0, 2]).table(THIRTEEN),
-        refused(14, "an image that was taken up", &altered::resumed(0, &altered::written(1)), again).table(FOURTEEN),
+        refused(14, "an image that was taken up", &altered::resumed(0, &altered::written((0, 1))), again)
+            .table(FOURTEEN),
         refused(16, "an empty tray record", &[], from_tray()).tray(vec![0; RECORD]).table(SIXTEEN),
         refused(17, "a park while a change waits", &[open(0), change(1)], command::park(0))
             .tray(one())
@@ -104,32 +105,38 @@ fn cut_short() -> Vec<Case> {
     each(0).into_iter().flat_map(cut).collect()
 }
 
-/// Images of 93 bytes, which all states but MUGI's would fit in: a resume is cut short with such an image alone, and
+/// Images of 94 bytes, which all states but MUGI's would fit in: a resume is cut short with such an image alone, and
 /// takes commands behind it for padding.
 fn short_images() -> Vec<Case> {
-    let short = |cipher: u8| command::resume(0, &positions::image(cipher, 5)[..93]);
+    let short = |cipher: u8| command::resume(0, &positions::image(cipher, 5)[..94]);
     let behind = |cipher: u8| [short(cipher), command::crypt(0, 0).repeat(18)].concat();
-    let what = |cipher: u8| format!("{}, a resume with an image of 93 bytes", name(cipher));
+    let what = |cipher: u8| format!("{}, a resume with an image of 94 bytes", name(cipher));
     let alone = (1..=LAST).map(|cipher| refused(1, what(cipher), &[], short(cipher)));
     let padded = (1..LAST).map(|cipher| refused(8, what(cipher) + " and frames behind it", &[], behind(cipher)));
     alone.chain(padded).collect()
 }
 
-/// Images of 161 bytes, with the state behind the position: a resume is cut short with such an image alone. With a
-/// command behind it, it takes the state's first word for the number, and the command for padding or, of MUGI, for the
-/// last word of the state.
-fn images_without_a_number() -> Vec<Case> {
-    let short = |cipher: u8| {
+/// Images as they once were, of 165 bytes with no line and of 161 with no number either: a resume is cut short with such
+/// an image alone. With commands behind it, it takes the bytes behind the position for the line and the number, and the
+/// commands for padding or, of MUGI, for the last bytes of the state.
+fn images_of_before() -> Vec<Case> {
+    let short = |cipher: u8, state: usize| {
         let image = positions::image(cipher, 5);
-        command::resume(0, &[&image[..NUMBER_AT], &image[STATE_AT..]].concat())
+        command::resume(0, &[&image[..LINE_AT], &image[state..]].concat())
     };
-    let behind = |cipher: u8| [short(cipher), command::crypt(0, 0)].concat();
-    let what = |cipher: u8| format!("{}, a resume with an image of 161 bytes", name(cipher));
-    let alone = (1..=LAST).map(|cipher| refused(1, what(cipher), &[], short(cipher)));
+    let behind = |cipher: u8, state: usize| [short(cipher, state), command::crypt(0, 0).repeat(2)].concat();
+    let what = |cipher: u8, state: usize| {
+        format!("{}, a resume with an image of {} bytes", name(cipher), IMAGE + LINE_AT - state)
+    };
     let of = |cipher: u8| if cipher == 6 { 14 } else { 8 };
-    let taken =
-        (1..=LAST).map(|cipher| refused(of(cipher), what(cipher) + " and a frame behind it", &[], behind(cipher)));
-    alone.chain(taken).collect()
+    let both = |state: usize| {
+        (1..=LAST).flat_map(move |cipher| {
+            let alone = refused(1, what(cipher, state), &[], short(cipher, state));
+            let more = what(cipher, state) + " and frames behind it";
+            [alone, refused(of(cipher), more, &[], behind(cipher, state))]
+        })
+    };
+    [NUMBER_AT, STATE_AT].into_iter().flat_map(both).collect()
 }
 
 /// First bytes that are no command, before operands that would do for any.

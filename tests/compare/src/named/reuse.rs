@@ -48,7 +48,7 @@ fn zeros_after_the_state(p: &Published) -> Case {
     let before = [p.open(1), command::crypt(1, 32), command::park(1)];
     let commands = [&before[..], &altered::parked(1)].concat();
     let case = Case::new(format!("Rabbit's image from a line that had {}", p.name()), &commands, "end 5 0");
-    case.data(vec![0; 32]).part(32 + IMAGE, &altered::written(2))
+    case.data(vec![0; 32]).part(32 + IMAGE, &altered::written((1, 2)))
 }
 
 /// All eight lines open at once, closed and parked from the last to the first.

@@ -4,8 +4,8 @@
 use super::twist::{at, Call, Twisted, Way};
 use crate::calls::Card;
 use crate::command::{self, CHANGE_KEY, CLOSE, CRYPT, IMAGE, IV, OPEN_OWN, OPEN_TRAY, PARK};
-use crate::images::image;
-use crate::machine::{Answer, END};
+use crate::images::{image, NO_PARK};
+use crate::machine::{Answer, SeenChange, END};
 
 /// A card for each way that shows in a list which ends with its first refusal.
 pub fn cards() -> impl Iterator<Item = Box<dyn Card>> {
@@ -165,7 +165,7 @@ fn passed(c: &Twisted, line: u8, call: &Call) -> bool {
 /// Brings the change due that waits on a line.
 fn come(c: &mut Twisted, line: u8) {
     let seen = c.machine.seen(line).and_then(|seen| Some((seen.cipher, seen.waiting?)));
-    seen.map(|(cipher, change)| c.machine.set(line, &image(cipher, 0, 0, &change.start)));
+    seen.map(|(cipher, change)| c.machine.set(line, &image(cipher, 0, NO_PARK, &change.start)));
 }
 
 /// Makes a call; after a crypt of no bytes on a line where a change waits, does something to that line.
@@ -205,7 +205,8 @@ fn left_to_the_next(c: &mut Twisted, call: &Call, out: &mut [u8]) -> Answer {
         (Some(line), _) if answer.code == 0 => c.dropped[usize::from(line)] = waiting,
         (_, Some(line)) if answer.code == 0 => {
             let dropped = c.dropped[usize::from(line)].take();
-            dropped.map(|change| c.machine.wait(line, &image(call.command[2], change.due, 0, &change.start)));
+            let image = |change: SeenChange| image(call.command[2], change.due, NO_PARK, &change.start);
+            dropped.map(|change| c.machine.wait(line, &image(change)));
         }
         _ => (),
     }

@@ -5,10 +5,10 @@ use super::twist::{Call, Twisted, Way};
 use crate::calls::Card;
 use crate::cipher::{by_number, Cipher};
 use crate::command::{CHANGE_KEY, CLOSE, CRYPT, IV, LOAD, OPEN_OWN, OPEN_TRAY, PARK, RESUME, START};
-use crate::images::image;
+use crate::images::{image, NO_PARK};
 use crate::machine::{Answer, Machine};
 use crate::rabbit::{self, Rabbit};
-use crate::words::{self, HELD, LINE, STATE};
+use crate::words::{self, LINE, STATE};
 use crate::{cipher, keys};
 
 /// A card for each way that shows in a list which ends with its first refusal.
@@ -54,12 +54,12 @@ static LINES: [Way; 11] = [
                 cipher.next(&mut state);
                 cipher.state_bytes(&state)
             });
-            c.machine.set(line, &image(seen.cipher, 0, 0, &next));
+            c.machine.set(line, &image(seen.cipher, 0, NO_PARK, &next));
         }
         answer
     }),
-    ("a load drops the number held for its line", |c, call, out| forgotten(c, call, out, LOAD)),
-    ("a start drops the number held for its line", |c, call, out| forgotten(c, call, out, START)),
+    ("a load drops the number held of its line", |c, call, out| forgotten(c, call, out, LOAD)),
+    ("a start drops the number held of its line", |c, call, out| forgotten(c, call, out, START)),
     ("20 bytes of a load are used", |c, call, out| match (call.of(LOAD), c.right(call, out)) {
         (Some(_), answer @ Answer { code: 0, .. }) => Answer { used_command: 20, ..answer },
         (_, answer) => answer,
@@ -205,13 +205,11 @@ fn kept(c: &mut Twisted, call: &Call, out: &mut [u8]) -> Answer {
     answer
 }
 
-/// Makes a call; where it is one of this kind that is accepted, the number held for its line is dropped.
+/// Makes a call; where it is one of this kind that is accepted, the number held of its line is dropped.
 fn forgotten(c: &mut Twisted, call: &Call, out: &mut [u8], kind: u8) -> Answer {
     let answer = c.right(call, out);
     if let Some(line) = call.of(kind).filter(|_| answer.code == 0) {
-        let mut card = words::of(&c.machine);
-        card[HELD + usize::from(line)] = 0;
-        words::machine(&card).into_iter().for_each(|machine| c.machine = machine);
+        c.set_parks(|_, held| held[usize::from(line)] = 0);
     }
     answer
 }

@@ -1,11 +1,12 @@
-//! A card that is the machine but for one thing that it does with changes of key or with loads, and what such things are
-//! made of.
+//! A card that is the machine but for one thing that it does with parks, with changes of key or with loads, and what such
+//! things are made of.
 
 use crate::calls::Card;
 use crate::cipher::{by_number, Shape};
 use crate::command::{self, length, CHANGE_KEY, CRYPT, IV, POSITION_AT, RECORD};
-use crate::images::image;
+use crate::images::{image, NO_PARK};
 use crate::machine::{Answer, Machine, SeenChange, SeenLoad, END};
+use crate::words::{self, COUNT, HELD};
 
 /// A way to be wrong: its name, and what the card does in the place of a call.
 pub type Way = (&'static str, fn(&mut Twisted, &Call, &mut [u8]) -> Answer);
@@ -53,12 +54,14 @@ pub struct Span<'a> {
     pub before: usize,
 }
 
-/// The card; it may keep the changes that closes dropped, and what lines were loaded with.
+/// The card; it may keep the changes that closes dropped, what lines were loaded with, and which line a call was parked
+/// from that was taken up on a line.
 #[derive(Clone)]
 pub struct Twisted {
     pub machine: Machine,
     pub dropped: [Option<SeenChange>; 8],
     pub kept: [Option<SeenLoad>; 8],
+    pub from: [Option<u8>; 8],
     way: &'static Way,
 }
 
@@ -78,7 +81,8 @@ impl Card for Twisted {
 
 impl Twisted {
     pub fn new(way: &'static Way) -> Twisted {
-        Twisted { machine: Machine::fresh(), dropped: Default::default(), kept: Default::default(), way }
+        let (dropped, kept, from) = Default::default();
+        Twisted { machine: Machine::fresh(), dropped, kept, from, way }
     }
 
     /// What the machine does.
@@ -89,6 +93,14 @@ impl Twisted {
     /// The code that the machine would answer.
     pub fn code(&self, call: &Call, out: &[u8]) -> u8 {
         self.machine.clone().call(call.command, call.tray, call.data, &mut out.to_vec()).code
+    }
+
+    /// Makes the counts of parks and the held numbers others, if a card may hold them.
+    pub fn set_parks(&mut self, change: impl FnOnce(&mut [u32], &mut [u32])) {
+        let mut card = words::of(&self.machine);
+        let (made, held) = card[COUNT..].split_at_mut(HELD - COUNT);
+        change(made, held);
+        words::machine(&card).into_iter().for_each(|machine| self.machine = machine);
     }
 
     /// The position of a line; 0 of an idle one.
@@ -109,7 +121,7 @@ impl Twisted {
     /// Makes an open line one at a position, with the state that it has and nothing waiting.
     pub fn move_to(&mut self, line: u8, position: u64) {
         if let Some(seen) = self.machine.seen(line).filter(|_| position <= END) {
-            self.machine.set(line, &image(seen.cipher, position, 0, &seen.state));
+            self.machine.set(line, &image(seen.cipher, position, NO_PARK, &seen.state));
         }
     }
 
