@@ -1,4 +1,5 @@
-//! Prints the constant tables from their fields' polynomials. `crates/tables/stdout` was made by it.
+//! Prints the constant tables from their fields' polynomials: `target/compare/release/tables >crates/tables/stdout` makes
+//! what the program `tables` is compared with.
 
 #![forbid(unsafe_code)]
 
