@@ -1,5 +1,5 @@
-// A load of a line of a card with a key of the tray, and the start of a loaded line with an IV (document 02, (vii)): Rabbit keeps a state, the other ciphers the
-// bytes of the key.
+// A load of a line of a card with a key of the tray, and the start of a loaded line with an IV (document 02, (vii)): Rabbit keeps a
+// state, the other ciphers the bytes of the key.
 // The caller must ensure that the card is as a call leaves it, that the line is one of its lines, and that the command is whole.
 ghost use mathlib.Core.Path.{_≡_};
 ghost use mathlib.Core.Bool.{true, false};
