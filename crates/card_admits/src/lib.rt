@@ -38,23 +38,21 @@ pub fn words_zero(s: &[u32]) -> bool
     all == 0
 }
 
-// Whether the first sixteen words of a state are cells of ZUC.
-fn cells(w: &[u32]) -> bool
+// Whether the first sixteen words of a state are cells of ZUC. Each word and the number before it are put together first, so that there is one test: of a cell
+// neither has the highest digit, and of 0 and of what is over 2^31 - 1 one does.
+pub fn cells(w: &[u32]) -> bool
     requires { ⌜ length (now w) ≡ stateWords ⌝ }
     ensures { λ r. ⌜ r ≡ areCells (take 16 (now (w .entry))) ⌝ }
 {
+    let mut all: u32 = 0;
     let mut i: usize = 0;
     while i < 16 {
         let x = w[i];
-        if x == 0 {
-            return false;
-        }
-        if x > 2147483647 {
-            return false;
-        }
+        let before = std::num::wrapping_add_u32(x, 4294967295);
+        all = all | x | before;
         i += 1;
     }
-    true
+    all < 2147483648
 }
 
 // Whether the words after the first k are zero.
@@ -78,7 +76,7 @@ fn zuc_admits(w: &[u32]) -> bool
 }
 
 // Whether a word is the byte of Rabbit's carry, with zeros after it.
-fn is_carry(w: u32) -> bool
+pub fn is_carry(w: u32) -> bool
     ensures { λ r. ⌜ r ≡ pick (eqb w 0) true (eqb w 16777216) ⌝ }
 {
     if w == 0 {

@@ -1,3 +1,4 @@
-pub mod Walks
 pub mod Changes
+pub mod Glances
 pub mod Loaded
+pub mod Walks

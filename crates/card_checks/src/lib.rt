@@ -3,12 +3,17 @@
 ghost use mathlib.Core.Path.{_≡_};
 ghost use mathlib.Core.Bool.{true};
 ghost use Prim.Native.Nat.{_+_, _^_, _<_};
+ghost use lib.Dec.{leb};
 ghost use lib.ListN.{length, getD};
-ghost use Rattle.card_sizes.specs.Sizes.{stateWords, dueAt, lineSize, cardSize};
+ghost use Rattle.words.specs.Tests.{both};
+ghost use Rattle.card_sizes.specs.Sizes.{stateWords, dueAt, lineSize, cardSize, limit};
 ghost use Rattle.machine.specs.Machine.{stateOk, changeOk, lineOk, cardOk};
 ghost use Rattle.card_line.specs.Words.{lineIn, lineWords};
 ghost use Rattle.card_layout.specs.Words.{cardIn, Sound};
+ghost use Rattle.card_checks.specs.Glances.{glanced};
 use card_admits::admits;
+use card_admits::cells;
+use card_admits::is_carry;
 use card_admits::keeps;
 use card_admits::words_zero;
 use card_sizes::DUE;
@@ -73,20 +78,78 @@ fn loaded_ok(line: &[u32]) -> bool
     keeps(cipher, &line[HEAD..DUE])
 }
 
+// Whether the open line that stands in words is as a call leaves it; where it is, the words hold that line and nothing else.
+fn open_ok(line: &[u32]) -> bool
+    requires { ⌜ (length (now line) ≡ lineSize) × (getD (now line) 0 0 ≡ 1) ⌝ }
+    ensures { λ r. ⌜ (r ≡ lineOk (lineIn (now (line .entry)))) × (r ≡ true → lineWords (lineIn (now (line .entry))) ≡ now (line .entry)) ⌝ }
+{
+    let cipher = card_line::cipher_of(line);
+    let n = card_line::position_of(line);
+    let state = open_with(cipher, n, &line[HEAD..DUE]);
+    if !state {
+        return false;
+    }
+    change_ok(cipher, n, line)
+}
+
+// Whether it is seen at a glance that an open line of the cipher of number c has a state that the cipher admits, and that nothing waits on it. All words that
+// must be zero are put together, so that there is one test.
+fn glance(c: u32, line: &[u32]) -> bool
+    requires { ⌜ length (now line) ≡ lineSize ⌝ }
+    ensures { λ r. ⌜ r ≡ glanced c (now (line .entry)) ⌝ }
+{
+    if c == 6 {
+        return words_zero(&line[DUE..LINE]);
+    }
+    if c == 5 {
+        return words_zero(&line[24..LINE]);
+    }
+    let rest = words_zero(&line[22..LINE]);
+    if !rest {
+        return false;
+    }
+    if c == 3 {
+        return true;
+    }
+    if c == 1 {
+        return cells(&line[HEAD..DUE]);
+    }
+    if c == 2 {
+        let spare = line[21];
+        if spare != 0 {
+            return false;
+        }
+        let carry = line[20];
+        return is_carry(carry);
+    }
+    c == 4
+}
+
+// Whether it is seen so that an open line is as a call leaves it, and that the words hold that line and nothing else.
+fn seen_ok(line: &[u32]) -> bool
+    requires { ⌜ length (now line) ≡ lineSize ⌝ }
+    ensures { λ r. ⌜ r ≡ both (leb (lineIn (now (line .entry)) .n) limit) (glanced (getD (now (line .entry)) 1 0) (now (line .entry))) ⌝ }
+{
+    let n = card_line::position_of(line);
+    if LIMIT < n {
+        return false;
+    }
+    let cipher = line[1];
+    glance(cipher, line)
+}
+
 // Whether the line that stands in words is as a call leaves it; where it is, the words hold that line and nothing else. An idle line's words are all zero.
-pub fn line_ok(line: &[u32]) -> bool
+fn line_ok(line: &[u32]) -> bool
     requires { ⌜ length (now line) ≡ lineSize ⌝ }
     ensures { λ r. ⌜ (r ≡ lineOk (lineIn (now (line .entry)))) × (r ≡ true → lineWords (lineIn (now (line .entry))) ≡ now (line .entry)) ⌝ }
 {
     let mode = line[0];
     if mode == 1 {
-        let cipher = card_line::cipher_of(line);
-        let n = card_line::position_of(line);
-        let state = open_with(cipher, n, &line[HEAD..DUE]);
-        if !state {
-            return false;
+        let seen = seen_ok(line);
+        if seen {
+            return true;
         }
-        return change_ok(cipher, n, line);
+        return open_ok(line);
     }
     if mode == 0 {
         return words_zero(line);

@@ -1,11 +1,19 @@
 -- `card_admits::admits` meets its contract: each arm asks what its cipher asks.
 -- Assumes nothing.
-use mathlib.Core.Path.{refl}
+use mathlib.Core.Path.{_≡_, refl, sym, subst}
+use mathlib.Core.Bool.{Bool}
+use mathlib.Core.List.{List}
+use Prim.Native.Nat.{ℕ}
+use Rattle.command.specs.declared.Cipher.{Cipher}
+use Rattle.command.specs.Decode.{numberOf}
 use Rattle.ciphers.specs.Table.{cipherAt, zuc, rabbit, snow128, snow256, kcipher2, mugi}
-use Rattle.card_admits.proofs.Between.{by-cipher}
 use borrow.Author.Needs.{needs}
 use Rattle.card_admits.proofs.admits.Statement.{statement}
 use Rattle.card_admits.proofs.admits.Tie as tie
+
+-- what a cipher admits, once it is known which it is
+by-cipher : {c d : Cipher} {b : Bool} (w : List ℕ) → c ≡ d → b ≡ cipherAt (numberOf d) .admits w → b ≡ cipherAt (numberOf c) .admits w
+by-cipher {b = b} w e h = subst (λ (x : Cipher). b ≡ cipherAt (numberOf x) .admits w) (sym e) h
 
 -- ---- places
 

@@ -1,6 +1,6 @@
 -- `card_checks::change_ok` meets its contract: zeros where nothing waits, else a position above the line's and a state.
 -- Assumes nothing.
-use mathlib.Core.Path.{_≡_, ap₂, sym, subst, _∙_}
+use mathlib.Core.Path.{ap₂, sym, subst, _∙_}
 use mathlib.Core.List.{List}
 use Prim.Native.Nat.{ℕ, _<_, _≤_}
 use native.Mathlib.Omega.{arith}
