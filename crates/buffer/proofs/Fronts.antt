@@ -9,8 +9,7 @@ use native.Mathlib.Omega.{arith}
 use borrow.Rule.Slice.PartMut.{putMid}
 use lib.ListN.{length, getD, take, drop, set, length-append, length-drop}
 use lib.Seq.{drop-cons, take-suc, take-all, set-at}
-use Rattle.keystream.proofs.Parts.{tail-length}
-use Rattle.keystream.proofs.Filling.{part-more}
+use Rattle.keystream.proofs.Parts.{tail-length, part-more}
 
 -- p, of a bytes, stands before what was there
 pub record Front (p before out : List ℕ) (a : ℕ) : Type 0 where

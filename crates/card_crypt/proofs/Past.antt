@@ -12,8 +12,7 @@ use lib.Seq.{length-take-le}
 use Rattle.words.specs.Tests.{pick}
 use Rattle.words.proofs.Tests.{both-true}
 use Rattle.keystream.proofs.Laws.{xorFrom-length}
-use Rattle.keystream.proofs.Parts.{tail-part}
-use Rattle.keystream.proofs.Filling.{part-more}
+use Rattle.keystream.proofs.Parts.{tail-part, part-more}
 use Rattle.card_sizes.specs.Sizes.{stateWords, lineSize}
 use Rattle.card_moves.specs.Moves.{comesDue, positionOn}
 use Rattle.card_moves.proofs.Due.{due-told, not-told, on-past, on-short}

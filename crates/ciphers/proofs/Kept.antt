@@ -19,7 +19,7 @@ use Rattle.words.specs.Word.{word}
 use Rattle.words.proofs.Registers.{cons}
 use Rattle.words.proofs.Ranges.{all-append, all-tab, bytesOf-bytes, wordAt-word}
 use Rattle.words.proofs.Tests.{both-left, both-right, both-true}
-use Rattle.keystream.proofs.Filling.{tab-length}
+use Rattle.keystream.proofs.Tables.{tab-length}
 use Rattle.rabbit.specs.Cipher as R
 use Rattle.rabbit.proofs.Ranges.{master-range, started-range}
 use Rattle.ciphers.specs.States.{stateWords, rabbitWords, rabbitState, spelt}

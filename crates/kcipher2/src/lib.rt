@@ -1,5 +1,7 @@
-// KCipher-2 (ISO/IEC 18033-4, 8.5): a state by value, its steps in both modes and its output.
+// KCipher-2 (ISO/IEC 18033-4, 8.5): a state by value, its steps in both modes and its output. Its start from key and IV is in `start`.
 // The caller passes the tables that `kcipher2_tables` and `field::tables::column` make by reference.
+pub mod start;
+
 ghost use mathlib.Core.Path.{_≡_};
 ghost use Prim.Native.Nat.{_<_};
 ghost use Rattle.words.specs.Lists.{shifted};
@@ -98,7 +100,7 @@ impl Kcipher2 {
     }
 
     // The word that comes into A.
-    pub fn feed_a(self, m0: &[u32; 256]) -> u32
+    fn feed_a(self, m0: &[u32; 256]) -> u32
         requires { ⌜ now m0 ≡ alpha0List ⌝ }
         ensures { λ r. ⌜ r ≡ fedA self ⌝ }
     {
@@ -107,7 +109,7 @@ impl Kcipher2 {
     }
 
     // The word that comes into B.
-    pub fn feed_b(self, m1: &[u32; 256], m2: &[u32; 256], m3: &[u32; 256]) -> u32
+    fn feed_b(self, m1: &[u32; 256], m2: &[u32; 256], m3: &[u32; 256]) -> u32
         requires { ⌜ now m1 ≡ alpha1List ⌝ }
         requires { ⌜ now m2 ≡ alpha2List ⌝ }
         requires { ⌜ now m3 ≡ alpha3List ⌝ }
@@ -121,7 +123,7 @@ impl Kcipher2 {
     }
 
     // The word whose T is the next R1.
-    pub fn right(self) -> u32
+    fn right(self) -> u32
         ensures { λ r. ⌜ r ≡ rightOf self ⌝ }
     {
         let b = self.b;
@@ -129,7 +131,7 @@ impl Kcipher2 {
     }
 
     // The word whose T is the next L1.
-    pub fn left(self) -> u32
+    fn left(self) -> u32
         ensures { λ r. ⌜ r ≡ leftOf self ⌝ }
     {
         let b = self.b;
@@ -137,7 +139,7 @@ impl Kcipher2 {
     }
 
     // A and B moved, with the words x and y, and the words of the nonlinear part.
-    pub fn moved(self, x: u32, y: u32, r1: u32, l1: u32, r2: u32, l2: u32) -> Kcipher2
+    fn moved(self, x: u32, y: u32, r1: u32, l1: u32, r2: u32, l2: u32) -> Kcipher2
         ensures { λ r. ⌜ r ≡ movedOf self x y r1 l1 r2 l2 ⌝ }
     {
         let a = self.a;

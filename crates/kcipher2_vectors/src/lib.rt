@@ -52,7 +52,7 @@ fn stream(k: &[u8], v: &[u8], units: usize) {
     let m2 = kcipher2_tables::alpha2();
     let m3 = kcipher2_tables::alpha3();
     let t = field::tables::column();
-    let s = kcipher2_start::init(&key, &iv, &m0, &m1, &m2, &m3, &t);
+    let s = Kcipher2::init(&key, &iv, &m0, &m1, &m2, &m3, &t);
     put_units(s, &m0, &m1, &m2, &m3, &t, units);
 }
 
@@ -109,7 +109,7 @@ fn states() {
     unhex(b"80000000000000000000000000000000", &mut key);
     unhex(b"00000004000000030000000200000001", &mut iv);
     let t = field::tables::column();
-    states_from(kcipher2_start::load(&key, &iv, &t), &t);
+    states_from(kcipher2::start::load(&key, &iv, &t), &t);
 }
 
 // C.6.

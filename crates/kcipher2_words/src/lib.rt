@@ -93,7 +93,7 @@ pub fn open(key: &[u8], iv: &[u8]) -> [u32; STATE]
     let m2 = kcipher2_tables::alpha2();
     let m3 = kcipher2_tables::alpha3();
     let t = field::tables::column();
-    words(kcipher2_start::init(key, iv, &m0, &m1, &m2, &m3, &t))
+    words(Kcipher2::init(key, iv, &m0, &m1, &m2, &m3, &t))
 }
 
 // The text goes to the start of out, XORed with the keystream from byte skip of the unit of the words' state on; w then holds the state of the unit in which

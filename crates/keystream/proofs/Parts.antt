@@ -1,16 +1,16 @@
 -- Parts of a crypt and how they join, for any generator: a part within a unit, a part that ends one, and a part after another, as `&mut out[at..]` lends it and
--- it comes back. A loop's invariant is `Running`, which is `Did` of the bytes so far.
+-- it comes back. A loop's invariant is `Running`, the part that is done so far.
 -- Assumes nothing.
 use Prim.Native.Nat.{ℕ, zero, suc, _+_, _-_, _*_, _/_, _%_, _<_, _≤_, min}
-use mathlib.Core.Path.{_≡_, refl, ap, sym, _∙_, subst}
-use mathlib.Core.List.{List, [], _++_, append-nil}
-use lib.ListN.{length, getD, take, drop, length-drop, take-append-drop}
-use lib.Seq.{length-take-le, drop-at, take-at, take-all, take-length, drop-length}
+use mathlib.Core.Path.{_≡_, refl, ap, ap₂, sym, _∙_, subst}
+use mathlib.Core.List.{List, [], _++_, append-assoc, append-nil}
+use lib.ListN.{length, getD, take, drop, length-append, length-drop, take-append-drop, List·getD-append}
+use lib.Seq.{length-take-le, getD-append-add, drop-at, drop-drop, take-at, take-all, take-length, drop-length}
 use borrow.Rule.Slice.PartMut.{putMid, postOf, post-is}
 use native.Mathlib.Omega.{arith}
 use native.Mathlib.Nat.{add-zero, zero-add, add-mod, zero-mod, div-add-mod', add-mul-div-right, mod-add-mod, add-mod-mod, mod-self, mod-eq-of-lt, div-eq-of-lt, div-self}
 use Rattle.words.specs.Lists.{iter}
-use Rattle.keystream.specs.Stream.{Gen, stateAt, byteAt, xorFrom, PartCrypted}
+use Rattle.keystream.specs.Stream.{Gen, stateAt, byteAt, xorFrom, BytesPut, UnitPut, PartCrypted}
 use Rattle.keystream.proofs.Laws.{xorFrom-length, xorFrom-agree, stateAt-here, stateAt-suc, stateAt-rebase, byteAt-rebase, div-mono, fill-part, fill-length}
 
 -- ---- a part that goes to the end
@@ -25,6 +25,54 @@ pub put-tail : (a : ℕ) (xs ys : List ℕ) → a ≤ length xs → putMid a (le
 put-tail a xs ys h =
     let e : postOf a (length xs - a) xs ≡ [] = post-is a (length xs) xs h ∙ drop-length xs in
     ap (λ (t : List ℕ). take a xs ++ (ys ++ t)) e ∙ ap (λ (t : List ℕ). take a xs ++ t) (append-nil ys)
+
+-- `&l[n..]`, as it is lent, and l after that part has come back
+abbrev pub lentFrom : ℕ → List ℕ → List ℕ
+lentFrom n l = take (length l - n) (drop n l)
+
+abbrev pub backFrom : ℕ → List ℕ → List ℕ → List ℕ
+backFrom n l part = putMid n (length l - n) l part
+
+-- p at the start, and q in the part after it, which was lent and comes back
+pub part-more : (p q before o1 o2 : List ℕ) (a b : ℕ) → length p ≡ a → a + b ≤ length before → o1 ≡ p ++ drop a before
+    → o2 ≡ q ++ drop b (take (length o1 - a) (drop a o1)) → putMid a (length o1 - a) o1 o2 ≡ (p ++ q) ++ drop (a + b) before
+part-more p q before o1 o2 a b l fits h k =
+    let n : length o1 ≡ a + length (drop a before) = ap length h ∙ length-append p (drop a before) ∙ ap (λ (x : ℕ). x + length (drop a before)) l in
+    put-tail a o1 o2 (omega arith)
+    ∙ ap (λ (x : List ℕ). x ++ o2) (ap (take a) h ∙ take-at p (drop a before) a l)
+    ∙ ap (λ (x : List ℕ). p ++ x)
+    (k ∙ ap (λ (x : List ℕ). q ++ drop b x) (tail-part a o1 ∙ ap (drop a) h ∙ drop-at p (drop a before) a l) ∙ ap (λ (x : List ℕ). q ++ x) (drop-drop b a before))
+    ∙ sym (append-assoc p q (drop (a + b) before))
+
+-- k bytes more with those of ys, in the part after the first a, which was lent and comes back
+pub put-more : (xs ys : List ℕ) (a k : ℕ) (text out o1 o2 : List ℕ) → length xs ≡ a → a + k ≤ length text → a + k ≤ length out → BytesPut xs 0 a text out o1
+    → BytesPut ys 0 k (lentFrom a text) (lentFrom a o1) o2 → BytesPut (xs ++ ys) 0 (a + k) text out (backFrom a o1 o2)
+put-more xs ys a k text out o1 o2 l h q d d' =
+    let f : ℕ → ℕ = λ j. getD (xs ++ ys) j 0 in
+    let lt : length (take a text) ≡ a = length-take-le a text (omega arith) in
+    let X : List ℕ = xorFrom f 0 (take a text) in
+    let first : xorFrom (λ j. getD xs j 0) 0 (take a text) ≡ X =
+    xorFrom-agree (λ j. getD xs j 0) f 0 0 (take a text) (λ i p. sym (List·getD-append xs ys 0 (0 + i) (omega arith))) in
+    let e : o1 ≡ X ++ drop a out = d ∙ ap (λ (x : List ℕ). x ++ drop a out) first in
+    let second : xorFrom (λ j. getD ys j 0) 0 (take k (drop a text)) ≡ xorFrom f (0 + a) (take k (drop a text)) =
+    xorFrom-agree (λ j. getD ys j 0) f 0 (0 + a) (take k (drop a text))
+    (λ i p. let n : 0 + a + i ≡ length xs + i = omega arith in let z : 0 + i ≡ i = zero-add i in
+    ap (λ (j : ℕ). getD ys j 0) z ∙ sym (ap f n ∙ getD-append-add xs ys i 0)) in
+    part-more X (xorFrom f (0 + a) (take k (drop a text))) out o1 o2 a k (xorFrom-length f 0 (take a text) ∙ lt) q e
+    (d' ∙ ap (λ (x : List ℕ). xorFrom (λ j. getD ys j 0) 0 (take k x) ++ drop k (lentFrom a o1)) (tail-part a text) ∙ ap (λ (x : List ℕ). x ++ drop k (lentFrom a o1)) second)
+    ∙ append-assoc X (xorFrom f (0 + a) (take k (drop a text))) (drop (a + k) out)
+    ∙ ap (λ (x : List ℕ). X ++ (xorFrom f (0 + a) (take k (drop a text)) ++ x)) (sym (drop-drop k a out))
+    ∙ fill-part f 0 a k text out h q
+
+-- the bytes of a unit that were written to the part of out from byte at on, which was lent and comes back
+pub put-at : {ks unit : List ℕ} → ks ≡ unit → (u : ℕ) (text : List ℕ) (at : ℕ) (out o' : List ℕ) → at ≤ length out → BytesPut ks 0 u (lentFrom at text) (lentFrom at out) o'
+    → UnitPut unit u text at out (backFrom at out o')
+put-at {ks} e u text at out o' h w =
+    put-tail at out o' h
+    ∙ ap (λ (x : List ℕ). take at out ++ x)
+    (w
+    ∙ ap₂ (λ (s t : List ℕ). xorFrom (λ j. getD ks j 0) 0 (take u s) ++ drop u t) (tail-part at text) (tail-part at out)
+    ∙ ap₂ (λ (k x : List ℕ). xorFrom (λ j. getD k j 0) 0 (take u (drop at text)) ++ x) e (drop-drop u at out))
 
 module _ {S : Type 0} (g : Gen S) (pos : zero < g .unit) where
   -- ---- places in a unit and positions in a line
@@ -181,10 +229,30 @@ module _ {S : Type 0} (g : Gen S) (u : ℕ) (pos : zero < u) (unit-is : g .unit 
   unit-pos : zero < g .unit
   unit-pos = omega arith
 
-  module _ {s : S} {text out₀ : List ℕ} (fits : length text ≤ length out₀) where
-    pub running-start : Running g u s text out₀ out₀ s 0
-    running-start = record { at-most = omega arith; whole = zero-mod u; same-length = refl; did = did-none g unit-pos unit-pos }
+  pub running-start : {s : S} {text out₀ : List ℕ} → Running g u s text out₀ out₀ s 0
+  running-start = record { at-most = omega arith; whole = zero-mod u; same-length = refl; did = did-none g unit-pos unit-pos }
 
+  -- a unit that was written after those before it, and a step
+  pub running-unit : {s : S} {text out₀ out out' : List ℕ} {cur cur' : S} {at : ℕ} → Running g u s text out₀ out cur at → at + u ≤ length text → at + u ≤ length out₀
+      → UnitPut (g .strm cur) u text at out out' → cur' ≡ g .next cur → Running g u s text out₀ out' cur' (at + u)
+  running-unit {s} {text} {out₀} {out} {out'} {cur} {cur'} {at} r h q w e =
+      let m = r .same-length in
+      let o : List ℕ = xorFrom (λ j. getD (g .strm cur) j 0) 0 (take u (drop at text)) ++ drop u (drop at out) in
+      let d : PartCrypted g 0 cur u (drop at text) (drop at out) cur' o =
+      part-end g unit-pos 0 u cur (drop at text) (drop at out) o (g .strm cur) refl (omega (arith, length-drop at text)) refl (zero-add u ∙ sym unit-is) e in
+      let put : out' ≡ take at out ++ o =
+      w ∙ ap (λ (x : List ℕ). take at out ++ (xorFrom (λ j. getD (g .strm cur) j 0) 0 (take u (drop at text)) ++ x)) (sym (drop-drop u at out)) in
+      let all : PartCrypted g 0 s (at + u) text out₀ cur' out' =
+      subst (λ (x : List ℕ). PartCrypted g 0 s (at + u) text out₀ cur' x) (sym put)
+      (did-more g unit-pos (omega arith) (omega arith) (aligned unit-is (0 + at) (ap (λ (x : ℕ). x % u) (zero-add at) ∙ r .whole)) (r .did) d) in
+      record {
+        at-most = omega arith;
+        whole = whole-more u at u (r .whole) (mod-self u);
+        same-length = did-length g unit-pos (omega arith) (omega arith) all;
+        did = all;
+      }
+
+  module _ {s : S} {text out₀ : List ℕ} (fits : length text ≤ length out₀) where
     -- a turn of k bytes, which are whole units
     pub running-turn : {out o' : List ℕ} {cur cur' : S} {at : ℕ} (k : ℕ) → k % u ≡ 0 → Running g u s text out₀ out cur at → k ≤ length text - at
         → PartCrypted g 0 cur k (take (length text - at) (drop at text)) (take (length out - at) (drop at out)) cur' o'
@@ -241,6 +309,65 @@ module _ {S : Type 0} (g : Gen S) (u : ℕ) (pos : zero < u) (unit-is : g .unit 
       d .out-is ∙ ap (λ (t : List ℕ). xorFrom (byteAt g s 0) n t ++ drop (length text) out₀) (take-length text),
     )
 
+-- Within a turn of t bytes that starts at byte at: k bytes of it are done, whole units, so whatever had run to byte at has run to byte at + k. The buffer and the state
+-- were out₀ and s when the turn began.
+pub record Turning {S : Type 0} (g : Gen S) (u t : ℕ) (text out₀ : List ℕ) (s : S) (at : ℕ) (out : List ℕ) (cur : S) (k : ℕ) : Type 0 where
+  pub within : k ≤ t
+  pub whole : k % u ≡ 0
+  pub same-length : length out ≡ length out₀
+  pub on : (s₁ : S) (o₁ : List ℕ) → length text ≤ length o₁ → Running g u s₁ text o₁ out₀ s at → Running g u s₁ text o₁ out cur (at + k)
+
+module _ {S : Type 0} (g : Gen S) (u : ℕ) (pos : zero < u) (unit-is : g .unit ≡ u) (t : ℕ) {s : S} {text out₀ : List ℕ} {at : ℕ} where
+  pub turning-start : Turning g u t text out₀ s at out₀ s 0
+  turning-start =
+      record {
+        within = omega arith;
+        whole = zero-mod u;
+        same-length = refl;
+        on = λ s₁ o₁ f r. subst (λ (n : ℕ). Running g u s₁ text o₁ out₀ s n) (sym (add-zero at)) r;
+      }
+
+  -- a unit more, and a step
+  pub turning-unit : {out out' : List ℕ} {cur cur' : S} {k : ℕ} → at + t ≤ length text → k + u ≤ t → Turning g u t text out₀ s at out cur k
+      → length out' ≡ length out → UnitPut (g .strm cur) u text (at + k) out out' → cur' ≡ g .next cur → Turning g u t text out₀ s at out' cur' (k + u)
+  turning-unit {out' = out'} {cur' = cur'} {k} h m r l w e =
+      let n : at + k + u ≡ at + (k + u) = omega arith in
+      record {
+        within = m;
+        whole = whole-more u k u (r .whole) (mod-self u);
+        same-length = l ∙ r .same-length;
+        on = λ s₁ o₁ f b.
+            subst (λ (x : ℕ). Running g u s₁ text o₁ out' cur' x) n (running-unit g u pos unit-is (r .on s₁ o₁ f b) (omega arith) (omega arith) w e);
+      }
+
+  -- the turn is done
+  pub turning-end : {s₁ cur : S} {o₁ out : List ℕ} {k : ℕ} → length text ≤ length o₁ → t ≤ k → Turning g u t text out₀ s at out cur k → Running g u s₁ text o₁ out₀ s at
+      → Running g u s₁ text o₁ out cur (at + t)
+  turning-end {s₁} {cur} {o₁} {out} {k} f m r b =
+      let w = r .within in
+      let n : k ≡ t = omega arith in
+      subst (λ (x : ℕ). Running g u s₁ text o₁ out cur (at + x)) n (r .on s₁ o₁ f b)
+
+-- eight units of four bytes, each written after those before it and followed by a step
+module _ {S : Type 0} (g : Gen S) (unit-is : g .unit ≡ 4) {s : S} {text out : List ℕ} (in-text : 32 ≤ length text) (in-out : 32 ≤ length out) where
+  one-of-eight : {o o' : List ℕ} {c c' : S} {k : ℕ} → k + 4 ≤ 32 → Running g 4 s text out o c k → UnitPut (g .strm c) 4 text k o o' → c' ≡ g .next c
+      → Running g 4 s text out o' c' (k + 4)
+  one-of-eight m r w e = running-unit g 4 (omega arith) unit-is r (omega arith) (omega arith) w e
+
+  pub eight-units : {s1 s2 s3 s4 s5 s6 s7 s8 : S} {o1 o2 o3 o4 o5 o6 o7 o8 : List ℕ}
+      → UnitPut (g .strm s) 4 text 0 out o1 → s1 ≡ g .next s → UnitPut (g .strm s1) 4 text 4 o1 o2 → s2 ≡ g .next s1 → UnitPut (g .strm s2) 4 text 8 o2 o3 → s3 ≡ g .next s2
+      → UnitPut (g .strm s3) 4 text 12 o3 o4 → s4 ≡ g .next s3 → UnitPut (g .strm s4) 4 text 16 o4 o5 → s5 ≡ g .next s4 → UnitPut (g .strm s5) 4 text 20 o5 o6 → s6 ≡ g .next s5
+      → UnitPut (g .strm s6) 4 text 24 o6 o7 → s7 ≡ g .next s6 → UnitPut (g .strm s7) 4 text 28 o7 o8 → s8 ≡ g .next s7 → PartCrypted g 0 s 32 text out s8 o8
+  eight-units w1 e1 w2 e2 w3 e3 w4 e4 w5 e5 w6 e6 w7 e7 w8 e8 =
+      let r1 = one-of-eight (omega arith) (running-start g 4 (omega arith) unit-is) w1 e1 in
+      let r2 = one-of-eight (omega arith) r1 w2 e2 in
+      let r3 = one-of-eight (omega arith) r2 w3 e3 in
+      let r4 = one-of-eight (omega arith) r3 w4 e4 in
+      let r5 = one-of-eight (omega arith) r4 w5 e5 in
+      let r6 = one-of-eight (omega arith) r5 w6 e6 in
+      let r7 = one-of-eight (omega arith) r6 w7 e7 in
+      one-of-eight (omega arith) r7 w8 e8 .did
+
 -- ---- two generators that show the same stream
 
 -- where f takes the states of g that hold P to those of h, it takes a line of g to the line of h with the same bytes
@@ -263,47 +390,3 @@ module _ {S T : Type 0} (g : Gen S) (h : Gen T) (f : S → T) (P : S → Type 0)
       ap (λ (u : ℕ). getD (g .strm (stateAt g s m (j / u))) (j % u) 0) same-unit
       ∙ ap (λ (l : List ℕ). getD l (j % h .unit) 0) (same-strm (stateAt g s m (j / h .unit)) (iter-along (j / h .unit - m) s p .0))
       ∙ ap (λ (t : T). getD (h .strm t) (j % h .unit) 0) (stateAt-along s m (j / h .unit) p)
-
--- ---- four units, each in the part of the buffer after the one before it
-
--- `&l[n..]`, as it is lent, and l after that part has come back
-abbrev pub lentFrom : ℕ → List ℕ → List ℕ
-lentFrom n l = take (length l - n) (drop n l)
-
-abbrev pub backFrom : ℕ → List ℕ → List ℕ → List ℕ
-backFrom n l part = putMid n (length l - n) l part
-
-module _ {S : Type 0} (g : Gen S) (u : ℕ) (pos : zero < u) (unit-is : g .unit ≡ u) {s s1 s2 s3 : S} {text out o1 o2 o3 : List ℕ}
-    (in-text : u + u + u + u ≤ length text) (in-out : u + u + u + u ≤ length out)
-    (d1 : PartCrypted g 0 s u text out s1 o1)
-    (d2 : PartCrypted g 0 s1 u (lentFrom u text) (lentFrom u o1) s2 o2)
-    (d3 : PartCrypted g 0 s2 u (lentFrom (u + u) text) (lentFrom (u + u) (backFrom u o1 o2)) s3 o3) where
-  positive : zero < g .unit
-  positive = omega arith
-
-  -- after whole units
-  whole-at : (a : ℕ) → a % u ≡ 0 → (0 + a) % g .unit ≡ 0
-  whole-at a h = aligned unit-is (0 + a) (ap (λ (x : ℕ). x % u) (zero-add a) ∙ h)
-
-  two-units : (u + u) % u ≡ 0
-  two-units = whole-more u u u (mod-self u) (mod-self u)
-
-  three : PartCrypted g 0 s (u + u + u) text out s3 (backFrom (u + u) (backFrom u o1 o2) o3)
-  three =
-      did-lent g positive (omega arith) (omega arith) (whole-at (u + u) two-units)
-      (did-lent g positive (omega arith) (omega arith) (whole-at u (mod-self u)) d1 d2) d3
-
-  pub three-length : length (backFrom (u + u) (backFrom u o1 o2) o3) ≡ length out
-  three-length = did-length g positive (omega arith) (omega arith) three
-
-  -- room for the fourth
-  pub fourth : (u ≤ length (lentFrom (u + u + u) text)) × (u ≤ length (lentFrom (u + u + u) (backFrom (u + u) (backFrom u o1 o2) o3)))
-  fourth = (omega (arith, tail-length (u + u + u) text), omega (arith, tail-length (u + u + u) (backFrom (u + u) (backFrom u o1 o2) o3), three-length))
-
-  module _ {s4 : S} {o4 : List ℕ}
-      (d4 : PartCrypted g 0 s3 u (lentFrom (u + u + u) text) (lentFrom (u + u + u) (backFrom (u + u) (backFrom u o1 o2) o3)) s4 o4) where
-    pub did-four : PartCrypted g 0 s (u + u + u + u) text out s4 (backFrom (u + u + u) (backFrom (u + u) (backFrom u o1 o2) o3) o4)
-    did-four = did-lent g positive in-text in-out (whole-at (u + u + u) (whole-more u (u + u) u two-units (mod-self u))) three d4
-
-    pub four-length : length (backFrom (u + u + u) (backFrom (u + u) (backFrom u o1 o2) o3) o4) ≡ length out
-    four-length = did-length g positive in-text in-out did-four

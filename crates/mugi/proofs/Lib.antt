@@ -1,3 +1,4 @@
 pub mod Blocks
 pub mod Steps
 pub mod Ranges
+pub mod Filling

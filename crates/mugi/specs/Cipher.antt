@@ -9,16 +9,8 @@ use Rattle.words.specs.Lists.{iter}
 use Rattle.field.specs.Gf8.{mul8}
 use Rattle.field.specs.Aes.{aes, sub}
 use Rattle.mugi.specs.declared.Mugi.{Mugi}
-
--- a block of two words, and its left and right word
-abbrev pub block : ℕ → ℕ → ℕ
-block l r = l * 2 ^ 32 + r
-
-abbrev pub left : ℕ → ℕ
-left x = x / 2 ^ 32
-
-abbrev pub right : ℕ → ℕ
-right x = x % 2 ^ 32
+pub use Rattle.blocks.specs.Blocks.{block, left, right}
+unfoldable pub use Rattle.blocks.specs.Blocks.{blockAt}
 
 -- x <<< k of 64 bits, for k from 1 to 63; x >>> k is x <<< (64 - k)
 abbrev pub rotl64 : ℕ → ℕ → ℕ
@@ -26,10 +18,6 @@ rotl64 k x = (x * 2 ^ k) % 2 ^ 64 + x / 2 ^ (64 - k)
 
 abbrev pub rotr64 : ℕ → ℕ → ℕ
 rotr64 k x = rotl64 (64 - k) x
-
--- the block whose first byte, the most significant, is byte i of s
-unfoldable pub blockAt : List ℕ → ℕ → ℕ
-blockAt s i = block (wordAt s i) (wordAt s (i + 4))
 
 -- block j of a or of b
 abbrev pub cell : List ℕ → ℕ → ℕ

@@ -1,11 +1,10 @@
--- A step in the parts that the code has, and four steps in a row. The step of the clause is `next`; a step in parts is proved to be one.
+-- A step in the parts that the code has. The step of the clause is `next`; a step in parts is proved to be one.
 -- Assumes nothing.
 use mathlib.Core.List.{List, [], _∷_}
 use Prim.Native.Nat.{ℕ}
 use Rattle.words.specs.Word.{_⊕_}
 use Rattle.mugi.specs.declared.Mugi.{Mugi}
-use Rattle.mugi.specs.declared.Four.{Four}
-use Rattle.mugi.specs.Cipher.{cell, d1, d2, rotl64, f, lambda1, next, strm}
+use Rattle.mugi.specs.Cipher.{cell, d1, d2, rotl64, f, lambda1}
 
 -- a after ρ1, where F gives x and y
 abbrev pub stirred : List ℕ → (x y : ℕ) → List ℕ
@@ -21,10 +20,3 @@ second s = f (cell (s .a) 1 ⊕ rotl64 17 (cell (s .b) 10))
 -- the state after a step where F gives x and y
 abbrev pub moved : Mugi → (x y : ℕ) → Mugi
 moved s x y = record { a = stirred (s .a) x y; b = lambda1 (s .b) (cell (s .a) 0) }
-
--- four blocks of keystream, and the state after them
-unfoldable pub fourOf : Mugi → Four
-fourOf s = record {
-  z = strm s ∷ strm (next s) ∷ strm (next (next s)) ∷ strm (next (next (next s))) ∷ [];
-  after = next (next (next (next s)));
-}

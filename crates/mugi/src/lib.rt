@@ -1,22 +1,20 @@
-// MUGI (ISO/IEC 18033-4, 8.1): a state by value, its step, its output, and four of both at once.
+// MUGI (ISO/IEC 18033-4, 8.1): a state by value, its step and its output. Its start from key and IV is in `start`.
 // The caller passes the table that `mugi_tables` makes by reference.
+pub mod start;
+
 ghost use mathlib.Core.Path.{_≡_};
 ghost use Prim.Native.Nat.{_+_, _*_, _/_, _%_, _^_};
 ghost use Rattle.words.specs.Word.{_∥_, high, low};
 ghost use Rattle.mugi_tables.specs.Tables.{mixingList};
-ghost use Rattle.mugi.specs.Cipher.{block, left as leftOf, right as rightOf, rotl64, mixedHalf as mixedOf, f as fOf, lambda1, next, strm};
-ghost use Rattle.mugi.specs.Steps.{stirred, first as firstOf, second as secondOf, moved as movedOf, fourOf};
+ghost use Rattle.mugi.specs.Cipher.{rotl64, mixedHalf as mixedOf, f as fOf, lambda1, next, strm};
+ghost use Rattle.mugi.specs.Steps.{stirred, first as firstOf, second as secondOf, moved as movedOf};
+use blocks::left;
+use blocks::right;
 
 // a0..a2 and b0..b15.
 pub struct Mugi {
     pub a: [u64; 3],
     pub b: [u64; 16],
-}
-
-// Four blocks of keystream, and the state after them.
-pub struct Four {
-    pub z: [u64; 4],
-    pub after: Mugi,
 }
 
 // x <<< 17.
@@ -40,27 +38,6 @@ fn rotl48(x: u64) -> u64
     (x << 48) + (x >> 16)
 }
 
-// The left word of a block.
-pub fn left(x: u64) -> u32
-    ensures { λ r. ⌜ r ≡ leftOf x ⌝ }
-{
-    (x / 4294967296) as u32
-}
-
-// The right word of a block.
-pub fn right(x: u64) -> u32
-    ensures { λ r. ⌜ r ≡ rightOf x ⌝ }
-{
-    (x % 4294967296) as u32
-}
-
-// The block of two words, l the left one.
-pub fn join(l: u32, r: u32) -> u64
-    ensures { λ x. ⌜ x ≡ block l r ⌝ }
-{
-    (l as u64) * 4294967296 + (r as u64)
-}
-
 // M of what S_R makes of the bytes of w, its halves exchanged: a byte in another place gives what it gives in the highest, rotated.
 fn mixed(w: u32, t: &[u32; 256]) -> u32
     requires { ⌜ now t ≡ mixingList ⌝ }
@@ -81,7 +58,7 @@ fn shuffle(l: u32, r: u32) -> u64
 }
 
 // F, of X xor T.
-pub fn f(x: u64, t: &[u32; 256]) -> u64
+fn f(x: u64, t: &[u32; 256]) -> u64
     requires { ⌜ now t ≡ mixingList ⌝ }
     ensures { λ y. ⌜ y ≡ fOf x ⌝ }
 {
@@ -91,7 +68,7 @@ pub fn f(x: u64, t: &[u32; 256]) -> u64
 }
 
 // a after rho1, where F gives x and y.
-pub fn stir(a: [u64; 3], x: u64, y: u64) -> [u64; 3]
+fn stir(a: [u64; 3], x: u64, y: u64) -> [u64; 3]
     ensures { λ r. ⌜ r ≡ stirred a x y ⌝ }
 {
     [
@@ -177,27 +154,5 @@ impl Mugi {
     {
         let blocks = self.a;
         blocks[2]
-    }
-
-    // Four blocks of keystream and the state after them. The steps are written out in parts, since a step that is called from four places is not compiled
-    // into the loop.
-    pub fn four(self, t: &[u32; 256]) -> Four
-        requires { ⌜ now t ≡ mixingList ⌝ }
-        ensures { λ r. ⌜ r ≡ fourOf self ⌝ }
-    {
-        let x0 = self.first(t);
-        let y0 = self.second(t);
-        let s1 = self.moved(x0, y0);
-        let x1 = s1.first(t);
-        let y1 = s1.second(t);
-        let s2 = s1.moved(x1, y1);
-        let x2 = s2.first(t);
-        let y2 = s2.second(t);
-        let s3 = s2.moved(x2, y2);
-        let x3 = s3.first(t);
-        let y3 = s3.second(t);
-        let s4 = s3.moved(x3, y3);
-        let z = [self.output(), s1.output(), s2.output(), s3.output()];
-        Four { z, after: s4 }
     }
 }

@@ -22,7 +22,7 @@ fn stream(k: &[u8], v: &[u8], units: usize) {
     unhex(k, &mut key);
     unhex(v, &mut iv);
     let t = mugi_tables::mixing();
-    let mut s = mugi_start::init(&key, &iv, &t);
+    let mut s = Mugi::init(&key, &iv, &t);
     let mut i: usize = 0;
     while i < units {
         block(s.output());
@@ -69,13 +69,13 @@ fn keying(key: &[u8], t: &[u32; 256]) -> Mugi
     requires { ⌜ length (now key) ≡ 16 ⌝ }
     requires { ⌜ now t ≡ mixingList ⌝ }
 {
-    let mut a = mugi_start::spread(key);
+    let mut a = mugi::start::spread(key);
     let mut b = [0u64; 16];
     let mut i: usize = 0;
     while i < 16 {
         listing(b"rho function ", i);
         state(Mugi { a, b });
-        a = mugi_start::turn(a, t);
+        a = mugi::start::turn(a, t);
         b[15 - i] = a[0];
         i += 1;
     }
@@ -91,13 +91,13 @@ fn mixing(s: Mugi, iv: &[u8], t: &[u32; 256]) -> Mugi
 {
     let start = s.a;
     let b = s.b;
-    let v = mugi_start::spread(iv);
-    let mut a = mugi_start::add(start, v);
+    let v = mugi::start::spread(iv);
+    let mut a = mugi::start::add(start, v);
     let mut i: usize = 0;
     while i < 16 {
         listing(b"rho function ", i);
         short(a);
-        let next = mugi_start::turn(a, t);
+        let next = mugi::start::turn(a, t);
         a = next;
         i += 1;
     }

@@ -8,11 +8,11 @@ ghost use Rattle.words.specs.Lists.{tab};
 ghost use Rattle.keystream.specs.Stream.{TextCrypted};
 ghost use Rattle.ciphers.specs.States.{stateWords, halves, blockIn, mugiWords, mugiState};
 ghost use Rattle.ciphers.specs.Table.{mugi};
+use blocks::join;
+use blocks::left;
+use blocks::right;
 use card_sizes::STATE;
 use mugi::Mugi;
-use mugi::join;
-use mugi::left;
-use mugi::right;
 
 // The blocks that a line's words hold.
 fn blocks_in(w: [u32; STATE]) -> [u64; 19]
@@ -119,7 +119,7 @@ pub fn open(key: &[u8], iv: &[u8]) -> [u32; STATE]
     ensures { λ r. ⌜ r ≡ mugi .init (now (key .entry)) (now (iv .entry)) ⌝ }
 {
     let t = mugi_tables::mixing();
-    words(mugi_start::init(key, iv, &t))
+    words(Mugi::init(key, iv, &t))
 }
 
 // The text goes to the start of out, XORed with the keystream from byte skip of the unit of the words' state on; w then holds the state of the unit in which

@@ -1,4 +1,6 @@
-// Rabbit (ISO/IEC 18033-4, 8.3; Amd 1:2009, 7.3): a state by value, its step and its output.
+// Rabbit (ISO/IEC 18033-4, 8.3; Amd 1:2009, 7.3): a state by value, its step and its output. Its start from key and IV is in `start`.
+pub mod start;
+
 ghost use mathlib.Core.Path.{_≡_};
 ghost use Prim.Native.Nat.{_+_, _<_, _^_};
 ghost use Rattle.words.specs.Word.{_+₃₂_, rotl};
@@ -25,7 +27,7 @@ fn sum(c: u32, a: u32, b: u32) -> u64
 }
 
 // 7.3.3, steps 2 to 4.
-pub fn count(c: [u32; 8], b: u32) -> Counted
+fn count(c: [u32; 8], b: u32) -> Counted
     ensures { λ r. ⌜ r ≡ counted c b ⌝ }
 {
     let a = rabbit_tables::a();
@@ -51,7 +53,7 @@ fn g(u: u32, v: u32) -> u32
 }
 
 // G0..G7 of 7.3.3, step 5.
-pub fn gs(x: [u32; 8], c: [u32; 8]) -> [u32; 8]
+fn gs(x: [u32; 8], c: [u32; 8]) -> [u32; 8]
     ensures { λ r. ⌜ r ≡ gsOf x c ⌝ }
 {
     [
@@ -84,7 +86,7 @@ fn odd(a: u32, b: u32, c: u32) -> u32
 }
 
 // X0..X7 of G0..G7.
-pub fn mix(g: [u32; 8]) -> [u32; 8]
+fn mix(g: [u32; 8]) -> [u32; 8]
     ensures { λ r. ⌜ r ≡ mixed g ⌝ }
 {
     [

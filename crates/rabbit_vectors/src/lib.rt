@@ -20,7 +20,7 @@ fn stream(k: &[u8], v: &[u8], units: usize) {
     let mut iv = [0u8; 8];
     unhex(k, &mut key);
     unhex(v, &mut iv);
-    let mut s = rabbit_start::init(&key, &iv);
+    let mut s = Rabbit::init(&key, &iv);
     let mut i: usize = 0;
     while i < units {
         unit_up(s.output());
@@ -70,9 +70,9 @@ fn states() {
     let mut iv = [0u8; 8];
     unhex(b"000102030405060708090a0b0c0d0e0f", &mut key);
     unhex(b"0001020304050607", &mut iv);
-    let s = run(rabbit_start::load(&key), 0, 4);
+    let s = run(rabbit::start::load(&key), 0, 4);
     state_at(4, s);
-    run(rabbit_start::add_iv(s, &iv), 5, 9);
+    run(rabbit::start::add_iv(s, &iv), 5, 9);
 }
 
 // C.4.

@@ -73,7 +73,7 @@ pub fn open(key: &[u8], iv: &[u8]) -> [u32; STATE]
     requires { ⌜ length (now iv) ≡ 8 ⌝ }
     ensures { λ r. ⌜ r ≡ rabbit .init (now (key .entry)) (now (iv .entry)) ⌝ }
 {
-    words(rabbit_start::init(key, iv))
+    words(Rabbit::init(key, iv))
 }
 
 // The state after step 3 of 7.3.2 of a key, which is kept for every IV.
@@ -81,7 +81,7 @@ pub fn keep(key: &[u8]) -> [u32; STATE]
     requires { ⌜ length (now key) ≡ 16 ⌝ }
     ensures { λ r. ⌜ r ≡ rabbitWords (master (now (key .entry))) ⌝ }
 {
-    words(rabbit_start::master(key))
+    words(Rabbit::master(key))
 }
 
 // S(0) of what is kept of a key and an IV.
@@ -90,7 +90,7 @@ pub fn start(kept: &[u32], iv: &[u8]) -> [u32; STATE]
     requires { ⌜ length (now iv) ≡ 8 ⌝ }
     ensures { λ r. ⌜ r ≡ rabbitWords (started (rabbitState (now (kept .entry))) (now (iv .entry))) ⌝ }
 {
-    words(rabbit_start::start(load(kept), iv))
+    words(load(kept).start(iv))
 }
 
 // The text goes to the start of out, XORed with the keystream from byte skip of the unit of the words' state on; w then holds the state of the unit in which

@@ -1,5 +1,7 @@
-// SNOW 2.0 (ISO/IEC 18033-4, 8.2): a state by value, its steps in both modes and its output.
+// SNOW 2.0 (ISO/IEC 18033-4, 8.2): a state by value, its steps in both modes and its output. Its start from key and IV is in `start`.
 // The caller passes the tables that `snow2_tables` and `field::tables::column` make by reference.
+pub mod start;
+
 ghost use mathlib.Core.Path.{_≡_};
 ghost use Rattle.field.specs.Gf32.{times};
 ghost use Rattle.field.specs.Tables.{columnList};

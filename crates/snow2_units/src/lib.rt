@@ -1,31 +1,23 @@
-// Units of the keystream of SNOW 2.0 over a text: one that is whole, four to a turn, and a part of one, each with the step after it.
+// Units of the keystream of SNOW 2.0 over a text: one that is whole, eight to a turn, and a part of one.
 // The caller must ensure that the text and the buffer have the bytes, and passes by reference the tables that `snow2_tables` and `field::tables::column` make.
-ghost use Prim.Native.Nat.{_+_, _≤_};
+ghost use Prim.Native.Nat.{_+_, _<_, _≤_};
 ghost use lib.ListN.{length};
-ghost use Rattle.keystream.specs.Stream.{PartCrypted};
+ghost use Rattle.keystream.specs.Stream.{UnitPut, PartCrypted};
 ghost use Rattle.snow2_tables.specs.Tables.{Lent};
+ghost use Rattle.snow2.specs.Cipher.{unit as unitOf};
 ghost use Rattle.snow2.specs.Generator.{gen};
 use snow2::Snow2;
 
-// A whole unit, which goes to the start of out.
-pub fn unit(
-    st: Snow2,
-    a: &[u32; 256],
-    ai: &[u32; 256],
-    t: &[u32; 256],
-    text: &[u8],
-    out: &mut [u8],
-) -> Snow2
-    requires { ⌜ Lent (now a) (now ai) (now t) ⌝ }
-    requires { ⌜ (4 ≤ length (now text)) × (4 ≤ length (now out)) ⌝ }
-    ensures { λ r. ⌜ PartCrypted gen 0 st 4 (now (text .entry)) (now (out .entry)) r (now (out .exit)) ⌝ }
+// The bytes of text from byte at on, with those of the unit of st, go to out from its byte at on.
+pub fn put(st: Snow2, text: &[u8], at: usize, out: &mut [u8])
+    requires { ⌜ (at + 4 ≤ length (now text)) × (at + 4 ≤ length (now out)) ⌝ }
+    ensures { λ _. ⌜ UnitPut (unitOf st) 4 (now (text .entry)) at (now (out .entry)) (now (out .exit)) ⌝ }
 {
-    writer::put_word(st.output(), text, out);
-    st.step(a, ai, t)
+    writer::put_word(st.output(), &text[at..], &mut out[at..]);
 }
 
-// Four units.
-pub fn four(
+// Eight units, which go to the start of out.
+pub fn eight(
     st: Snow2,
     a: &[u32; 256],
     ai: &[u32; 256],
@@ -34,13 +26,25 @@ pub fn four(
     out: &mut [u8],
 ) -> Snow2
     requires { ⌜ Lent (now a) (now ai) (now t) ⌝ }
-    requires { ⌜ (16 ≤ length (now text)) × (16 ≤ length (now out)) ⌝ }
-    ensures { λ r. ⌜ PartCrypted gen 0 st 16 (now (text .entry)) (now (out .entry)) r (now (out .exit)) ⌝ }
+    requires { ⌜ (32 ≤ length (now text)) × (32 ≤ length (now out)) ⌝ }
+    ensures { λ r. ⌜ PartCrypted gen 0 st 32 (now (text .entry)) (now (out .entry)) r (now (out .exit)) ⌝ }
 {
-    let st1 = unit(st, a, ai, t, text, out);
-    let st2 = unit(st1, a, ai, t, &text[4..], &mut out[4..]);
-    let st3 = unit(st2, a, ai, t, &text[8..], &mut out[8..]);
-    unit(st3, a, ai, t, &text[12..], &mut out[12..])
+    put(st, text, 0, out);
+    let s1 = st.step(a, ai, t);
+    put(s1, text, 4, out);
+    let s2 = s1.step(a, ai, t);
+    put(s2, text, 8, out);
+    let s3 = s2.step(a, ai, t);
+    put(s3, text, 12, out);
+    let s4 = s3.step(a, ai, t);
+    put(s4, text, 16, out);
+    let s5 = s4.step(a, ai, t);
+    put(s5, text, 20, out);
+    let s6 = s5.step(a, ai, t);
+    put(s6, text, 24, out);
+    let s7 = s6.step(a, ai, t);
+    put(s7, text, 28, out);
+    s7.step(a, ai, t)
 }
 
 // used bytes of a unit from its byte from on; the state steps where the unit is used up.

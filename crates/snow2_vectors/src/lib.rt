@@ -35,7 +35,7 @@ fn stream128(k: &[u8], v: &[u8], units: usize) {
     let a = snow2_tables::alpha();
     let ai = snow2_tables::inverse();
     let t = field::tables::column();
-    let s = snow2_start::init128(&key, &iv, &a, &ai, &t);
+    let s = Snow2::init128(&key, &iv, &a, &ai, &t);
     put_units(s, &a, &ai, &t, units);
 }
 
@@ -48,7 +48,7 @@ fn stream256(k: &[u8], v: &[u8], units: usize) {
     let a = snow2_tables::alpha();
     let ai = snow2_tables::inverse();
     let t = field::tables::column();
-    let s = snow2_start::init256(&key, &iv, &a, &ai, &t);
+    let s = Snow2::init256(&key, &iv, &a, &ai, &t);
     put_units(s, &a, &ai, &t, units);
 }
 
@@ -90,10 +90,10 @@ fn states128() {
     let mut iv = [0u8; 16];
     unhex(b"80000000000000000000000000000000", &mut key);
     time(0, 34);
-    let before = snow2_start::load128(&key, &iv).s;
+    let before = snow2::start::load128(&key, &iv).s;
     register(before);
     unhex(b"00000004000000030000000200000001", &mut iv);
-    states(snow2_start::load128(&key, &iv));
+    states(snow2::start::load128(&key, &iv));
 }
 
 fn states256() {
@@ -104,10 +104,10 @@ fn states256() {
         &mut key,
     );
     time(0, 34);
-    let before = snow2_start::load256(&key, &iv).s;
+    let before = snow2::start::load256(&key, &iv).s;
     register(before);
     unhex(b"00000004000000030000000200000001", &mut iv);
-    states(snow2_start::load256(&key, &iv));
+    states(snow2::start::load256(&key, &iv));
 }
 
 // C.2.

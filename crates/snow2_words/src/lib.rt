@@ -52,7 +52,7 @@ pub fn open128(key: &[u8], iv: &[u8]) -> [u32; STATE]
     let a = snow2_tables::alpha();
     let ai = snow2_tables::inverse();
     let t = field::tables::column();
-    words(snow2_start::init128(key, iv, &a, &ai, &t))
+    words(Snow2::init128(key, iv, &a, &ai, &t))
 }
 
 // S(0) of a key of 32 bytes and an IV.
@@ -64,7 +64,7 @@ pub fn open256(key: &[u8], iv: &[u8]) -> [u32; STATE]
     let a = snow2_tables::alpha();
     let ai = snow2_tables::inverse();
     let t = field::tables::column();
-    words(snow2_start::init256(key, iv, &a, &ai, &t))
+    words(Snow2::init256(key, iv, &a, &ai, &t))
 }
 
 // The text goes to the start of out, XORed with the keystream from byte skip of the unit of the words' state on; w then holds the state of the unit in which

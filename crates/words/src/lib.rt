@@ -4,7 +4,7 @@ ghost use mathlib.Core.Path.{_≡_};
 ghost use Prim.Native.Nat.{_+_, _≤_, _<_, _^_};
 ghost use lib.ListN.{length, getD};
 ghost use Rattle.words.specs.Word.{word, rotl};
-ghost use Rattle.words.specs.Strings.{wordAt, fourAt, bytesOf};
+ghost use Rattle.words.specs.Strings.{wordAt, fourAt, bytesOf, bytesUp};
 ghost use Rattle.words.specs.Lists.{shifted};
 
 // A byte as a word.
@@ -49,6 +49,17 @@ pub fn bytes(w: u32) -> [u8; 4]
     let b = (w / 65536 % 256) as u8;
     let c = (w / 256 % 256) as u8;
     let d = (w % 256) as u8;
+    [a, b, c, d]
+}
+
+// The bytes of w, least significant first.
+pub fn bytes_up(w: u32) -> [u8; 4]
+    ensures { λ r. ⌜ r ≡ bytesUp w ⌝ }
+{
+    let a = (w % 256) as u8;
+    let b = (w / 256 % 256) as u8;
+    let c = (w / 65536 % 256) as u8;
+    let d = (w / 16777216 % 256) as u8;
     [a, b, c, d]
 }
 

@@ -8,7 +8,7 @@ use lib.Bits.{bitXor, xor-shr, xor-mod}
 use native.Mathlib.Omega.{arith}
 use Rattle.keystream.specs.Stream.{xorFrom}
 use Rattle.keystream.proofs.Laws.{fill-byte}
-use Rattle.words.specs.Strings.{bytesOf}
+use Rattle.words.specs.Strings.{bytesOf, bytesUp}
 
 pub four-stores : (f : ℕ → ℕ) (l o : List ℕ) → 4 ≤ length l → 4 ≤ length o →
     set (set (set (set o 0 (bitXor (getD l 0 0) (f 0))) 1 (bitXor (getD l 1 0) (f 1))) 2 (bitXor (getD l 2 0) (f 2))) 3 (bitXor (getD l 3 0) (f 3))
@@ -29,7 +29,7 @@ byte-sum x w k b h =
 low-sum : (x w b : ℕ) → x % 2 ^ 8 ≡ b → bitXor x w % 2 ^ 8 ≡ bitXor b (w % 2 ^ 8)
 low-sum x w b h = xor-mod x w 8 ∙ ap (λ (y : ℕ). bitXor y (w % 2 ^ 8)) h
 
--- the bytes of the sum of a word of text and w, stored one after the other
+-- the bytes of the sum of a word of text and w, stored one after the other, the most significant first
 pub word-stores : (w a b c d : ℕ) (l o : List ℕ) → 4 ≤ length l → 4 ≤ length o
     → (a ≡ getD l 0 0) × (a < 256) → (b ≡ getD l 1 0) × (b < 256) → (c ≡ getD l 2 0) × (c < 256) → (d ≡ getD l 3 0) × (d < 256) →
     set (set (set (set o 0 (bitXor (((a * 256 + b) * 256 + c) * 256 + d) w / 16777216 % 256)) 1 (bitXor (((a * 256 + b) * 256 + c) * 256 + d) w / 65536 % 256))
@@ -47,3 +47,19 @@ word-stores w a b c d l o h q ha hb hc hd =
     ∙ ap (λ (v : ℕ). set (set (set (set o 0 (bitXor (getD l 0 0) (w / 2 ^ 24 % 256))) 1 (bitXor (getD l 1 0) (w / 2 ^ 16 % 256))) 2 v) 3 (bitXor x w % 256)) s2
     ∙ ap (λ (v : ℕ). set (set (set (set o 0 (bitXor (getD l 0 0) (w / 2 ^ 24 % 256))) 1 (bitXor (getD l 1 0) (w / 2 ^ 16 % 256))) 2 (bitXor (getD l 2 0) (w / 2 ^ 8 % 256))) 3 v) s3
     ∙ four-stores (λ j. getD (bytesOf w) j 0) l o h q
+
+-- the same, stored one after the other, the least significant first
+pub up-stores : (w a b c d : ℕ) (l o : List ℕ) → 4 ≤ length l → 4 ≤ length o
+    → (a ≡ getD l 0 0) × (a < 256) → (b ≡ getD l 1 0) × (b < 256) → (c ≡ getD l 2 0) × (c < 256) → (d ≡ getD l 3 0) × (d < 256) →
+    set (set (set (set o 0 (bitXor (((d * 256 + c) * 256 + b) * 256 + a) w % 256)) 1 (bitXor (((d * 256 + c) * 256 + b) * 256 + a) w / 256 % 256))
+    2 (bitXor (((d * 256 + c) * 256 + b) * 256 + a) w / 65536 % 256)) 3 (bitXor (((d * 256 + c) * 256 + b) * 256 + a) w / 16777216 % 256)
+    ≡ xorFrom (λ j. getD (bytesUp w) j 0) 0 (take 4 l) ++ drop 4 o
+unfolding bytesUp
+up-stores w a b c d l o h q ha hb hc hd =
+    let x : ℕ = ((d * 256 + c) * 256 + b) * 256 + a in
+    let s0 : bitXor x w % 256 ≡ bitXor (getD l 0 0) (w % 256) = low-sum x w (getD l 0 0) (omega arith) in
+    let s1 : bitXor x w / 256 % 256 ≡ bitXor (getD l 1 0) (w / 2 ^ 8 % 256) = byte-sum x w 8 (getD l 1 0) (omega arith) in
+    let s2 : bitXor x w / 65536 % 256 ≡ bitXor (getD l 2 0) (w / 2 ^ 16 % 256) = byte-sum x w 16 (getD l 2 0) (omega arith) in
+    let s3 : bitXor x w / 16777216 % 256 ≡ bitXor (getD l 3 0) (w / 2 ^ 24 % 256) = byte-sum x w 24 (getD l 3 0) (omega arith) in
+    (λ i. set (set (set (set o 0 (s0 i)) 1 (s1 i)) 2 (s2 i)) 3 (s3 i))
+    ∙ four-stores (λ j. getD (bytesUp w) j 0) l o h q

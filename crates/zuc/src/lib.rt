@@ -1,5 +1,7 @@
-// ZUC (ISO/IEC 18033-4:2011/Amd 1:2020, 8.6): a state by value, its steps in both modes and its output.
+// ZUC (ISO/IEC 18033-4:2011/Amd 1:2020, 8.6): a state by value, its steps in both modes and its output. Its start from key and IV is in `start`.
 // The caller passes the tables that `zuc_tables` makes by reference.
+pub mod start;
+
 ghost use mathlib.Core.Path.{_≡_};
 ghost use Prim.Native.Nat.{_+_, _-_, _/_, _%_, _^_, _<_, _≤_};
 ghost use Rattle.words.specs.Word.{_∥_, word, low, high};

@@ -34,7 +34,7 @@ fn stream(k: &[u8], v: &[u8], units: usize) {
     unhex(v, &mut iv);
     let t1 = zuc_tables::sub1();
     let t2 = zuc_tables::sub2();
-    let s = zuc_start::init(&key, &iv, &t1, &t2);
+    let s = Zuc::init(&key, &iv, &t1, &t2);
     put_units(s, &t1, &t2, units);
 }
 
@@ -63,7 +63,7 @@ fn states() {
     unhex(b"84319aa8de6915ca1f6bda6bfbd8c766", &mut iv);
     let t1 = zuc_tables::sub1();
     let t2 = zuc_tables::sub2();
-    let mut s = zuc_start::load(&key, &iv);
+    let mut s = zuc::start::load(&key, &iv);
     let mut i: usize = 0;
     while i < 42 {
         time(i, 33);

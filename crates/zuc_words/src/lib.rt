@@ -51,7 +51,7 @@ pub fn open(key: &[u8], iv: &[u8]) -> [u32; STATE]
 {
     let t1 = zuc_tables::sub1();
     let t2 = zuc_tables::sub2();
-    words(zuc_start::init(key, iv, &t1, &t2))
+    words(Zuc::init(key, iv, &t1, &t2))
 }
 
 // The text goes to the start of out, XORed with the keystream from byte skip of the unit of the words' state on; w then holds the state of the unit in which

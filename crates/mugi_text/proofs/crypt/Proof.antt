@@ -10,8 +10,8 @@ use Rattle.mugi_text.proofs.crypt.Tie as tie
 
 -- ---- places
 
-abbrev after-part : tie.After-fours → tie.After-part
-after-part c = c .before .before .before .before .before .before
+abbrev after-begun : tie.After-pairs → tie.After-begun
+after-begun c = c .before .before .before .before .before .before
 
 abbrev start : tie.After-least → tie.Start
 start c = c .before .before .before .before
@@ -20,13 +20,13 @@ returns : tie.Need-returns
 unfolding gen
 returns c =
     let f = c .before .before in
-    let p = after-part f in
+    let p = after-begun f in
     let h = p .before .before .before in
     let k = start h in
     let fits = k .pre .1 in
     crypted gen 8 (omega arith) refl fits
-    (begun gen 8 (omega arith) refl fits (k .pre .0) (h .least .ensures) (p .part .ensures)
-    (tail-length (h .least .result) (k .args .text .now)) (f .fours .ensures))
+    (begun gen 8 (omega arith) refl fits (k .pre .0) (h .least .ensures) (p .begun .ensures)
+    (tail-length (h .least .result) (k .args .text .now)) (f .pairs .ensures))
 
 pub crypt-spec : {M : Type 1} → statement M
 crypt-spec =

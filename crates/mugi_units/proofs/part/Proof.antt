@@ -1,12 +1,10 @@
 -- `mugi_units::part` meets its contract: the bytes are those of one unit, which is used up or not.
 -- Assumes nothing.
-use Prim.Native.Nat.{ℕ}
 use mathlib.Core.Path.{ap, _∙_}
-use mathlib.Core.List.{_++_}
 use native.Mathlib.Omega.{arith}
-use Rattle.words.specs.Strings.{bytesOf}
 use Rattle.keystream.proofs.Parts.{part-end, part-within}
-use Rattle.mugi.specs.Cipher.{left, right, unit}
+use Rattle.blocks.specs.Blocks.{spell}
+use Rattle.mugi.specs.Cipher.{unit}
 use Rattle.mugi.specs.Generator.{gen}
 use borrow.Author.Needs.{needs}
 use Rattle.mugi_units.proofs.part.Statement.{statement}
@@ -27,20 +25,20 @@ abbrev after-bytes : tie.Else1 → tie.After-bytes
 after-bytes c = c .before .before .before .before .before .before
 
 returns : tie.Need-returns
-unfolding gen unit
+unfolding gen unit spell
 returns c =
     let p = after-put-part c in
     let o = after-output p in
     let a = o .before .before .before .args in
-    part-end gen (omega arith) (a .from) (a .used) (a .st) (a .text .now) (a .out .now) _ _ (p .before .before .before .bytes .ensures ∙ ap (λ (x : ℕ). bytesOf (left x) ++ bytesOf (right x)) (o .output .ensures)) (omega arith) (p .put-part .ensures)
+    part-end gen (omega arith) (a .from) (a .used) (a .st) (a .text .now) (a .out .now) _ _ (p .before .before .before .bytes .ensures ∙ ap spell (o .output .ensures)) (omega arith) (p .put-part .ensures)
     (c .before .if1 .taken) (c .step .ensures)
 
 returns-2 : tie.Need-returns-2
-unfolding gen unit
+unfolding gen unit spell
 returns-2 c =
     let o = after-output-from-else1 c in
     let a = o .before .before .before .args in
-    part-within gen (omega arith) (a .from) (a .used) (a .st) (a .text .now) (a .out .now) _ _ (after-bytes c .bytes .ensures ∙ ap (λ (x : ℕ). bytesOf (left x) ++ bytesOf (right x)) (o .output .ensures)) (omega arith)
+    part-within gen (omega arith) (a .from) (a .used) (a .st) (a .text .now) (a .out .now) _ _ (after-bytes c .bytes .ensures ∙ ap spell (o .output .ensures)) (omega arith)
     (c .before .before .before .put-part .ensures) (omega (arith, c .if1 .left))
 
 pub part-spec : {M : Type 1} → statement M

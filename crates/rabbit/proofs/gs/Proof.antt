@@ -1,6 +1,7 @@
 -- `rabbit::gs` meets its contract: each G is that of its own X and C.
 -- Assumes nothing.
 use mathlib.Core.Path.{refl}
+use native.Mathlib.Omega.{arith}
 use Rattle.words.proofs.Registers.{cons}
 use Rattle.rabbit.specs.Cipher.{gs}
 use borrow.Author.Needs.{needs}
@@ -36,8 +37,8 @@ returns c =
 
 pub gs-spec : {M : Type 1} → statement M
 gs-spec =
-    tie.close (tie.spec (search needs) (search needs) (λ c κs. search needs) (search needs) (search needs)
-    (λ c κs. search needs) (search needs) (search needs) (λ c κs. search needs) (search needs) (search needs)
-    (λ c κs. search needs) (search needs) (search needs) (λ c κs. search needs) (search needs) (search needs)
-    (λ c κs. search needs) (search needs) (search needs) (λ c κs. search needs) (search needs) (search needs)
+    tie.close (tie.spec (λ c. omega arith) (λ c. omega arith) (λ c κs. search needs) (λ c. omega arith) (λ c. omega arith)
+    (λ c κs. search needs) (λ c. omega arith) (λ c. omega arith) (λ c κs. search needs) (λ c. omega arith) (λ c. omega arith)
+    (λ c κs. search needs) (λ c. omega arith) (λ c. omega arith) (λ c κs. search needs) (λ c. omega arith) (λ c. omega arith)
+    (λ c κs. search needs) (λ c. omega arith) (λ c. omega arith) (λ c κs. search needs) (λ c. omega arith) (λ c. omega arith)
     (λ c κs. search needs) returns)

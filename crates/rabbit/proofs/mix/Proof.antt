@@ -1,6 +1,7 @@
 -- `rabbit::mix` meets its contract: each X is the sum of 7.3.3, step 6.
 -- Assumes nothing.
 use mathlib.Core.Path.{refl}
+use native.Mathlib.Omega.{arith}
 use Rattle.words.proofs.Registers.{cons}
 use Rattle.rabbit.specs.Cipher.{mixed}
 use borrow.Author.Needs.{needs}
@@ -36,9 +37,9 @@ returns c =
 
 pub mix-spec : {M : Type 1} → statement M
 mix-spec =
-    tie.close (tie.spec (search needs) (search needs) (search needs) (λ c κs. search needs) (search needs)
-    (search needs) (search needs) (λ c κs. search needs) (search needs) (search needs) (search needs)
-    (λ c κs. search needs) (search needs) (search needs) (search needs) (λ c κs. search needs) (search needs)
-    (search needs) (search needs) (λ c κs. search needs) (search needs) (search needs) (search needs)
-    (λ c κs. search needs) (search needs) (search needs) (search needs) (λ c κs. search needs) (search needs)
-    (search needs) (search needs) (λ c κs. search needs) returns)
+    tie.close (tie.spec (λ c. omega arith) (λ c. omega arith) (λ c. omega arith) (λ c κs. search needs) (λ c. omega arith)
+    (λ c. omega arith) (λ c. omega arith) (λ c κs. search needs) (λ c. omega arith) (λ c. omega arith) (λ c. omega arith)
+    (λ c κs. search needs) (λ c. omega arith) (λ c. omega arith) (λ c. omega arith) (λ c κs. search needs) (λ c. omega arith)
+    (λ c. omega arith) (λ c. omega arith) (λ c κs. search needs) (λ c. omega arith) (λ c. omega arith) (λ c. omega arith)
+    (λ c κs. search needs) (λ c. omega arith) (λ c. omega arith) (λ c. omega arith) (λ c κs. search needs) (λ c. omega arith)
+    (λ c. omega arith) (λ c. omega arith) (λ c κs. search needs) returns)

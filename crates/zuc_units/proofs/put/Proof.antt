@@ -1,25 +1,31 @@
--- `zuc_units::put` meets its contract: the unit is the bytes of the word of keystream.
+-- `zuc_units::put` meets its contract: the unit writer gets the part of out from byte at on, which comes back.
 -- Assumes nothing.
-use mathlib.Core.Path.{ap, _∙_}
-use mathlib.Core.List.{_++_}
-use Prim.Native.Nat.{ℕ}
-use lib.ListN.{getD, take, drop}
+use mathlib.Core.Path.{ap}
+use native.Mathlib.Omega.{arith}
 use Rattle.words.specs.Strings.{bytesOf}
-use Rattle.keystream.specs.Stream.{xorFrom}
+use Rattle.keystream.proofs.Parts.{put-at}
 use Rattle.zuc.specs.Cipher.{unit}
 use borrow.Author.Needs.{needs}
 use Rattle.zuc_units.proofs.put.Statement.{statement}
 use Rattle.zuc_units.proofs.put.Tie as tie
 
+-- ---- places
+
+abbrev written : tie.After-slice-known2 → tie.After-put-word
+written c = c .before .before
+
+abbrev after-output : tie.After-put-word → tie.After-output
+after-output p = p .before .before .before
+
 returns : tie.Need-returns
 unfolding unit
 returns c =
-    let p = c .before .before in
-    let o = p .before .before in
+    let p = written c in
+    let o = after-output p in
     let a = o .before .before .before .args in
-    p .put-word .ensures
-    ∙ ap (λ (w : ℕ). xorFrom (λ j. getD (bytesOf w) j 0) 0 (take 4 (a .text .now)) ++ drop 4 (a .out .now)) (o .output .ensures)
+    put-at (ap bytesOf (o .output .ensures)) 4 (a .text .now) (a .at) (a .out .now) _ (omega arith) (p .put-word .ensures)
 
 pub put-spec : {M : Type 1} → statement M
 put-spec =
-    tie.close (tie.spec (λ c κs. search needs) (λ c κs. search needs) (search needs) returns)
+    tie.close (tie.spec (λ c κs. search needs) (λ c. omega arith) (λ c. omega arith) (λ c. omega arith) (λ c. omega arith) (λ c. omega arith) (λ c. omega arith)
+    (λ c κs. search needs) (λ c. search needs) returns)
