@@ -3,19 +3,19 @@
 
 #include <cryptopp/rabbit.h>
 
-static CryptoPP::RabbitWithIV::Encryption rabbit;
+static CryptoPP::RabbitWithIV::Encryption rabbit[LINES];
 
-static void rabbit_open(const struct cipher *cipher)
+static void rabbit_open(int line, const struct cipher *cipher)
 {
-    rabbit.SetKeyWithIV(cipher->key, 16, cipher->iv, 8);
+    rabbit[line].SetKeyWithIV(cipher->key, 16, cipher->iv, 8);
 }
 
-static void rabbit_crypt(const uint8_t *in, uint8_t *out, size_t n)
+static void rabbit_crypt(int line, const uint8_t *in, uint8_t *out, size_t n)
 {
-    rabbit.ProcessData(out, in, n);
+    rabbit[line].ProcessData(out, in, n);
 }
 
-static void rabbit_close()
+static void rabbit_close(int)
 {
 }
 

@@ -8,8 +8,9 @@
 static IMB_MGR *manager;
 static const struct cipher *opened;
 
-static void zuc_open(const struct cipher *cipher)
+static void zuc_open(int line, const struct cipher *cipher)
 {
+    (void)line;
     if (manager == NULL) {
         manager = alloc_mb_mgr(0);
         if (manager == NULL)
@@ -19,13 +20,15 @@ static void zuc_open(const struct cipher *cipher)
     opened = cipher;
 }
 
-static void zuc_crypt(const uint8_t *in, uint8_t *out, size_t n)
+static void zuc_crypt(int line, const uint8_t *in, uint8_t *out, size_t n)
 {
+    (void)line;
     IMB_ZUC_EEA3_1_BUFFER(manager, opened->key, opened->iv, in, out, (uint32_t)n);
 }
 
-static void zuc_close(void)
+static void zuc_close(int line)
 {
+    (void)line;
 }
 
 const struct side IPSECMB = {"ipsec-mb", zuc_open, zuc_crypt, zuc_close};

@@ -8,7 +8,7 @@
 
 /* A round is eight lines on each of some cards, which are copied from a kept one before it, so
    that the clock's own time counts for little. */
-enum { ROUNDS = 1000, CARDS = 16, LINES = 8, TRAY = 32, FRAME = 160 };
+enum { ROUNDS = 1000, CARDS = 16, TRAY = 32 };
 
 typedef uint32_t card_words[PIPESHEAR_CARD];
 
@@ -54,7 +54,7 @@ static double round_of(card_words *cards, const uint32_t *kept, uint8_t *command
 }
 
 /* Prints a row: the least times of a start and of an open, each with a frame of n bytes, in
-   microseconds, and the second over the first. */
+   microseconds, and the median of the rounds' ratios of the second to the first. */
 static void row(const struct cipher *c, const char *what, size_t n)
 {
     static const uint8_t none[1];
@@ -66,18 +66,19 @@ static void row(const struct cipher *c, const char *what, size_t n)
     memcpy(open + 4, c->iv, 16);
     each_line(loaded, load, sizeof load, c->key, TRAY, started_out, 0);
 
-    double start_best = 1e9, open_best = 1e9;
+    double start_best = 1e9, open_best = 1e9, ratio[ROUNDS];
     for (int i = 0; i < ROUNDS; i++) {
-        double t = round_of(started, loaded, start, sizeof start, none, 0, started_out, n);
-        start_best = t < start_best ? t : start_best;
-        t = round_of(opened, fresh, open, sizeof open, c->key, TRAY, opened_out, n);
-        open_best = t < open_best ? t : open_best;
+        double s = round_of(started, loaded, start, sizeof start, none, 0, started_out, n);
+        double o = round_of(opened, fresh, open, sizeof open, c->key, TRAY, opened_out, n);
+        start_best = s < start_best ? s : start_best;
+        open_best = o < open_best ? o : open_best;
+        ratio[i] = o / s;
         if (memcmp(started, opened, sizeof started) != 0 || memcmp(started_out, opened_out, n) != 0)
             fail("a started line is not as an opened one");
     }
     double scale = 1e6 / (CARDS * LINES);
     printf("%-9s %-12s %12.2f %16.2f %7.2f\n", c->name, what, start_best * scale,
-           open_best * scale, open_best / start_best);
+           open_best * scale, median(ratio, ROUNDS));
     fflush(stdout);
 }
 
