@@ -104,16 +104,13 @@ fn iv_words(h: [u16; 4]) -> [u32; 4]
 fn modify(x: [u32; 8], c: [u32; 8], v: [u32; 4]) -> [u32; 8]
     ensures { λ r. ⌜ r ≡ modified x c v ⌝ }
 {
-    [
-        c[0] ^ x[4] ^ v[0],
-        c[1] ^ x[5] ^ v[1],
-        c[2] ^ x[6] ^ v[2],
-        c[3] ^ x[7] ^ v[3],
-        c[4] ^ x[0] ^ v[0],
-        c[5] ^ x[1] ^ v[1],
-        c[6] ^ x[2] ^ v[2],
-        c[7] ^ x[3] ^ v[3],
-    ]
+    let mut next = c;
+    let mut i: usize = 0;
+    while i < 8 {
+        next[i] = c[i] ^ x[(i + 4) % 8] ^ v[i % 4];
+        i += 1;
+    }
+    next
 }
 
 // The state of a key before any step.

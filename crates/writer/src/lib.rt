@@ -55,16 +55,23 @@ pub fn put_words(z: [u32; 2], text: &[u8], out: &mut [u8])
     put_word(z[1], &text[4..], &mut out[4..]);
 }
 
+// The first eight bytes of text, with the bytes of two words, least significant first, go to the start of out.
+fn put_two_up(v: u32, w: u32, text: &[u8], out: &mut [u8])
+    requires { ⌜ (8 ≤ length (now text)) × (8 ≤ length (now out)) ⌝ }
+    ensures { λ _. ⌜ BytesPut (bytesUp v ++ bytesUp w) 0 8 (now (text .entry)) (now (out .entry)) (now (out .exit)) ⌝ }
+{
+    put_word_up(v, text, out);
+    put_word_up(w, &text[4..], &mut out[4..]);
+}
+
 // The first sixteen bytes of text, with the bytes of four words, least significant first, go to the start of out.
 pub fn put_words_up(z: [u32; 4], text: &[u8], out: &mut [u8])
     requires { ⌜ (16 ≤ length (now text)) × (16 ≤ length (now out)) ⌝ }
     ensures { λ _. ⌜ BytesPut (bytesUp (getD z 0 0) ++ bytesUp (getD z 1 0) ++ bytesUp (getD z 2 0) ++ bytesUp (getD z 3 0)) 0 16 (now (text .entry)) (now (out .entry))
         (now (out .exit)) ⌝ }
 {
-    put_word_up(z[0], text, out);
-    put_word_up(z[1], &text[4..], &mut out[4..]);
-    put_word_up(z[2], &text[8..], &mut out[8..]);
-    put_word_up(z[3], &text[12..], &mut out[12..]);
+    put_two_up(z[0], z[1], text, out);
+    put_two_up(z[2], z[3], &text[8..], &mut out[8..]);
 }
 
 // The first eight bytes of text, with those of the block z, most significant first, go to the start of out.
