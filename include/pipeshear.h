@@ -27,6 +27,8 @@
  * of a line that is not loaded, an open one too, is refused (code 19). The card keeps a loaded line's key, for Rabbit the state that the key alone gives; a start needs no
  * tray. A loaded line refuses opens, resumes and loads (code 5) and crypts, parks and changes (code 6); a close empties it.
  *
+ * A message, such as the record of a call, can be sealed as a whole without a card, with pipeshear_seal and pipeshear_unseal.
+ *
  * Link with target/staticlib/libpipeshear.a, which `rt staticlib pipeshear` makes for Linux on x86-64. */
 #ifndef PIPESHEAR_H
 #define PIPESHEAR_H
@@ -84,6 +86,60 @@ uint8_t pipeshear_call(uint32_t *card, size_t card_words,
                        const uint8_t *data, size_t data_bytes,
                        uint8_t *out, size_t out_bytes,
                        size_t *counts, size_t places);
+
+/* The longest message that can be sealed, and the bytes that sealing adds to a message. */
+#define PIPESHEAR_MESSAGE 16384
+#define PIPESHEAR_SEAL 16
+
+/* A message is sealed as a whole and opened again as a whole, so that one that was changed on its way is refused: MULTI-S01 of ISO/IEC 18033-4, clause 6.2.3, in blocks of
+ * eight bytes. No card is used. What pipeshear_seal writes, pipeshear_unseal takes back to the message, with the same cipher, key, IV and redundancy.
+ *
+ *   cipher       1 ZUC, 2 Rabbit, 3 SNOW 2.0 with 16 key bytes, 4 SNOW 2.0 with 32, 5 KCipher-2, 6 MUGI
+ *   key, iv      32 and 16 bytes; a shorter key or IV stands first, with zeros after it; not changed
+ *   redundancy   8 bytes that both ends know, for example zeros; they need not be secret; not changed
+ *   message      what is sealed: at most PIPESHEAR_MESSAGE bytes, a multiple of 8; an empty message can be sealed; not changed
+ *   sealed       what is opened: what pipeshear_seal wrote; not changed
+ *   out          where the sealed message, PIPESHEAR_SEAL bytes longer than the message, or the opened message is written, from the first byte on; the bytes after it are
+ *                not changed
+ *   written      one count: the bytes written to out
+ *
+ * Each pointer is followed by the number of bytes or counts that it points to. The caller owns all buffers, before and after. out and written must not overlap each other or
+ * any other buffer, and no pointer may be null, even with length 0.
+ *
+ * Returns 0 for a message that was sealed or opened. Any other code is a refusal: out is not changed, and the count is 0. pipeshear_unseal writes nothing before the whole has
+ * passed its test. If several apply, the first is returned, in this order:
+ *
+ *   255  key_bytes not 32, iv_bytes not 16, redundancy_bytes not 8, or places not 1; the count is not changed either
+ *    23  message over 16384 bytes, or not a multiple of 8; of a sealed message: a length that no such message has, below 16, over 16400, or not a multiple of 8
+ *     4  cipher not 1 to 6
+ *     7  a key or IV byte beyond the cipher's length is not 0
+ *    16  key all zero in the cipher's own length
+ *    12  out shorter than what is to be written
+ *    24  of a sealed message: redundancy or padding wrong; of either: the first 4096 blocks of the keystream all zero
+ *
+ * Seal one message with a pair of key and IV: no second message, and do not open a line with that pair either. Both would use the same keystream, and no check notices it. What
+ * is proved of lines, that no keystream byte is used twice, does not cover sealing.
+ *
+ * A sealed message of which one block of eight bytes was changed, in whatever way, is always refused. Another text that nobody sealed may be accepted by chance: annex D of
+ * the standard gives (u - 2) in 2^64 for a forged text of u blocks.
+ *
+ * Neither has a state of its own, so threads may call them at the same time, each with its own out and written. pipeshear_seal takes some 11 KB of stack, pipeshear_unseal
+ * some 27 KB. */
+uint8_t pipeshear_seal(uint8_t cipher,
+                       const uint8_t *key, size_t key_bytes,
+                       const uint8_t *iv, size_t iv_bytes,
+                       const uint8_t *redundancy, size_t redundancy_bytes,
+                       const uint8_t *message, size_t message_bytes,
+                       uint8_t *out, size_t out_bytes,
+                       size_t *written, size_t places);
+
+uint8_t pipeshear_unseal(uint8_t cipher,
+                         const uint8_t *key, size_t key_bytes,
+                         const uint8_t *iv, size_t iv_bytes,
+                         const uint8_t *redundancy, size_t redundancy_bytes,
+                         const uint8_t *sealed, size_t sealed_bytes,
+                         uint8_t *out, size_t out_bytes,
+                         size_t *written, size_t places);
 
 #ifdef __cplusplus
 }

@@ -1,7 +1,8 @@
 //! The cipher card for an exchange: eight lines, enciphered with the stream ciphers of ISO/IEC 18033-4.
 //!
 //! A [`Card`] runs one command at a time. The functions of [`command`] make commands; a refused one returns a
-//! [`Refusal`] and leaves card and buffers as they were. The card itself is the proved library `libpipeshear.a`.
+//! [`Refusal`] and leaves card and buffers as they were. [`seal()`] and [`unseal()`] need no card: they seal a record as a
+//! whole, so that a changed one is refused. The card itself and this pair are the proved library `libpipeshear.a`.
 //!
 //! A line is opened with SNOW 2.0 and enciphers sixteen bytes:
 //!
@@ -112,11 +113,13 @@ mod cipher;
 pub mod command;
 #[allow(unsafe_code)]
 mod raw;
+mod record;
 mod refusal;
 
 pub use card::{Card, Counts};
 pub use cipher::Cipher;
-pub use raw::raw_call;
+pub use raw::{raw_call, raw_seal, raw_unseal};
+pub use record::{seal, unseal, MESSAGE, REDUNDANCY, SEAL};
 pub use refusal::Refusal;
 
 /// The bytes of a parked line's image: the cipher's number, the position in eight bytes, the line that was parked, the

@@ -1,4 +1,4 @@
-//! The C interface: the function of `include/pipeshear.h`, and a call of it on slices. All unsafe code is here.
+//! The C interface: the functions of `include/pipeshear.h`, and calls of them on slices. All unsafe code is here.
 
 extern "C" {
     fn pipeshear_call(
@@ -13,6 +13,38 @@ extern "C" {
         out: *mut u8,
         out_bytes: usize,
         counts: *mut usize,
+        places: usize,
+    ) -> u8;
+
+    fn pipeshear_seal(
+        cipher: u8,
+        key: *const u8,
+        key_bytes: usize,
+        iv: *const u8,
+        iv_bytes: usize,
+        redundancy: *const u8,
+        redundancy_bytes: usize,
+        message: *const u8,
+        message_bytes: usize,
+        out: *mut u8,
+        out_bytes: usize,
+        written: *mut usize,
+        places: usize,
+    ) -> u8;
+
+    fn pipeshear_unseal(
+        cipher: u8,
+        key: *const u8,
+        key_bytes: usize,
+        iv: *const u8,
+        iv_bytes: usize,
+        redundancy: *const u8,
+        redundancy_bytes: usize,
+        sealed: *const u8,
+        sealed_bytes: usize,
+        out: *mut u8,
+        out_bytes: usize,
+        written: *mut usize,
         places: usize,
     ) -> u8;
 }
@@ -59,6 +91,80 @@ pub fn raw_call(
     }
 }
 
+/// A message sealed with slices of any length; [`seal`](crate::seal()) is the same with arrays.
+///
+/// Returns the code, 0 for a message that was sealed. `written` is the bytes written to `out`, 0 if it is refused. The
+/// code is 255 and nothing is changed, `written` neither, if `key` does not have 32 bytes, `iv` 16 and `redundancy` 8, or
+/// if `written` does not have one place.
+///
+/// ```
+/// let (mut sealed, mut written) = ([0; 24], [0; 1]);
+/// let code = pipeshear::raw_seal(1, &[0; 32], &[0; 16], &[0; 8], b"room 107", &mut sealed, &mut written);
+/// assert_eq!((code, written), (16, [0]));
+/// ```
+pub fn raw_seal(
+    cipher: u8,
+    key: &[u8],
+    iv: &[u8],
+    redundancy: &[u8],
+    message: &[u8],
+    out: &mut [u8],
+    written: &mut [usize],
+) -> u8 {
+    // SAFETY: each pointer is a slice's, so it is not null, also where the slice is empty, and leads to as many places
+    // as the length after it says. What the call changes (out and written) is borrowed by `&mut`, so nothing else
+    // overlaps it. The call keeps no pointer and has no state of its own.
+    unsafe {
+        pipeshear_seal(
+            cipher,
+            key.as_ptr(),
+            key.len(),
+            iv.as_ptr(),
+            iv.len(),
+            redundancy.as_ptr(),
+            redundancy.len(),
+            message.as_ptr(),
+            message.len(),
+            out.as_mut_ptr(),
+            out.len(),
+            written.as_mut_ptr(),
+            written.len(),
+        )
+    }
+}
+
+/// A sealed message opened with slices of any length; [`unseal`](crate::unseal()) is the same with arrays.
+///
+/// Returns the code, 0 for a message that was opened; all else is as in [`raw_seal`].
+pub fn raw_unseal(
+    cipher: u8,
+    key: &[u8],
+    iv: &[u8],
+    redundancy: &[u8],
+    sealed: &[u8],
+    out: &mut [u8],
+    written: &mut [usize],
+) -> u8 {
+    // SAFETY: as in `raw_seal`.
+    unsafe {
+        pipeshear_unseal(
+            cipher,
+            key.as_ptr(),
+            key.len(),
+            iv.as_ptr(),
+            iv.len(),
+            redundancy.as_ptr(),
+            redundancy.len(),
+            sealed.as_ptr(),
+            sealed.len(),
+            out.as_mut_ptr(),
+            out.len(),
+            written.as_mut_ptr(),
+            written.len(),
+        )
+    }
+}
+
 #[cfg(test)]
 mod tests {
     use super::*;
@@ -74,6 +180,19 @@ mod tests {
             assert!(card.iter().all(|&word| word == 0));
             let left = if places == 3 { 0 } else { 5 };
             assert!(counts.iter().all(|&count| count == left));
+        }
+    }
+
+    #[test]
+    fn other_lengths_of_a_records_arrays_are_255_and_nothing_is_changed() {
+        let lengths = [(31, 16, 8, 1), (33, 16, 8, 1), (32, 15, 8, 1), (32, 16, 7, 1), (32, 16, 8, 0), (32, 16, 8, 2)];
+        for (key, iv, redundancy, places) in lengths {
+            for pair in [raw_seal, raw_unseal] {
+                let (mut out, mut written) = ([7; 40], vec![5; places]);
+                let (key, iv, redundancy) = (vec![9; key], vec![9; iv], vec![9; redundancy]);
+                let code = pair(4, &key, &iv, &redundancy, &[1; 24], &mut out, &mut written);
+                assert_eq!((code, out, written), (255, [7; 40], vec![5; places]));
+            }
         }
     }
 }

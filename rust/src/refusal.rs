@@ -1,10 +1,11 @@
-//! Why a command was refused: the code, and what it means.
+//! Why a command or a record was refused: the code, and what it means.
 
 use std::error::Error;
 use std::fmt;
 use std::num::NonZeroU8;
 
-/// A refused command. The card and the buffers are as they were before it.
+/// A refused command, or a record that was refused when it was sealed or opened. The card and the buffers are as they
+/// were before it.
 #[derive(Clone, Copy, Debug, PartialEq, Eq, Hash)]
 pub struct Refusal(NonZeroU8);
 
@@ -17,7 +18,7 @@ impl Refusal {
         }
     }
 
-    /// The code: 1 to 19, or 255 for a damaged card.
+    /// The code: 1 to 19, or 255 for a damaged card; of a record 4, 7, 12, 16, 23 or 24.
     pub const fn code(self) -> u8 {
         self.0.get()
     }
@@ -45,7 +46,7 @@ fn text(code: u8) -> &'static str {
         9 => "tray length not a multiple of 32, or over 8192",
         10 => "key number not in the tray",
         11 => "data shorter than the count",
-        12 => "out shorter than the count, or than an image for a park",
+        12 => "out shorter than what is to be written",
         13 => "position after the crypt over 2^36",
         14 => "park number not held for the line in the image",
         15 => "no park number left: the line has made 4,294,967,295 parks",
@@ -53,6 +54,8 @@ fn text(code: u8) -> &'static str {
         17 => "change or park while a change of key is waiting on the line",
         18 => "change position below the line's position, or above 2^36",
         19 => "start on a line that is not loaded",
+        23 => "message over 16,384 bytes or not a multiple of 8, or a sealed length that no such message has",
+        24 => "redundancy or padding wrong, or the first 4,096 blocks of the keystream all zero",
         255 => "damaged card",
         _ => "a code that the card does not give",
     }
@@ -65,7 +68,7 @@ mod tests {
 
     #[test]
     fn every_code_has_a_text_of_its_own() {
-        let codes: Vec<u8> = (1..=19).chain([255]).collect();
+        let codes: Vec<u8> = (1..=19).chain([23, 24, 255]).collect();
         let texts: HashSet<&str> = codes.iter().map(|&code| text(code)).collect();
         assert_eq!(texts.len(), codes.len());
         assert!(!texts.contains(text(20)));

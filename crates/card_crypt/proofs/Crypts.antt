@@ -40,12 +40,6 @@ crypted-line l u eu text out w' out' e f =
       f ∙ ap (λ (x : List ℕ). x ++ drop (length text) out) (b ∙ sym (xorFrom-place g (sound (l .cipher) .unit-pos) (l .words) (l .n) text)),
     )
 
-pub unit-up : (c u : ℕ) → u ≡ cipherAt c .gen .unit → 0 < u
-unit-up c u e = subst (λ (x : ℕ). 0 < x) (sym e) (sound c .unit-pos)
-
-pub place-within : (c n u : ℕ) → u ≡ cipherAt c .gen .unit → n % u < cipherAt c .gen .unit
-place-within c n u e = subst (λ (x : ℕ). n % x < cipherAt c .gen .unit) (sym e) (mod-lt n (sound c .unit-pos))
-
 -- a line that moved on is one that words can hold where its state is whole
 pub moved-plain : (l : Line) (k : ℕ) → Plain l → length (shown (moved (based l) k) .words) ≡ stateWords → Plain (shown (moved (based l) k))
 unfolding shown moved based along renewed

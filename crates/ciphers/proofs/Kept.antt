@@ -5,9 +5,7 @@ use mathlib.Core.Path.{_≡_, refl, ap, ap₂, sym, _∙_, subst}
 use mathlib.Core.Bool.{Bool, true, false, not}
 use mathlib.Core.List.{List, [], _∷_, _++_}
 use Prim.Native.Nat.{ℕ, zero, suc, _+_, _*_, _/_, _%_, _^_, _<_, _≤_}
-use native.Mathlib.Nat.{mod-eq-of-lt}
 use native.Mathlib.Omega.{arith}
-use lib.Arith.{digits-div, digits-mod}
 use lib.Dec.{eqb}
 use lib.ListN.{length, getD, take, drop, List·getD-eq-default}
 use lib.Seq.{take-nil}
@@ -16,10 +14,11 @@ use Rattle.words.specs.Lists.{All, none, more, Byte, Word, tab}
 use Rattle.words.specs.Strings.{wordAt, bytesOf}
 use Rattle.words.specs.Tests.{both, pick}
 use Rattle.words.specs.Word.{word}
+use Rattle.words.proofs.Digits.{word-told}
 use Rattle.words.proofs.Registers.{cons}
 use Rattle.words.proofs.Ranges.{all-append, all-tab, bytesOf-bytes, wordAt-word}
 use Rattle.words.proofs.Tests.{both-left, both-right, both-true}
-use Rattle.keystream.proofs.Tables.{tab-length}
+use Rattle.keystream.proofs.Tables.{tab-length, tab-agree}
 use Rattle.rabbit.specs.Cipher as R
 use Rattle.rabbit.proofs.Ranges.{master-range, started-range}
 use Rattle.ciphers.specs.States.{stateWords, rabbitWords, rabbitState, spelt}
@@ -37,24 +36,6 @@ pub record Keeps (c : ℕ) (w : List ℕ) : Type 0 where
   pub kept : keepsOk c w ≡ true
 
 -- ---- words and the bytes that they spell
-
--- the bytes of a word of bytes
-word-told : (a b c d : ℕ) → Byte a → Byte b → Byte c → Byte d → bytesOf (word a b c d) ≡ a ∷ b ∷ c ∷ d ∷ []
-unfolding bytesOf
-word-told a b c d ha hb hc hd =
-    let w : ℕ = word a b c d in
-    let e3 : w ≡ a * 2 ^ 24 + (b * 2 ^ 16 + c * 2 ^ 8 + d) = omega arith in
-    let e2 : w ≡ (a * 2 ^ 8 + b) * 2 ^ 16 + (c * 2 ^ 8 + d) = omega arith in
-    let r3 : b * 2 ^ 16 + c * 2 ^ 8 + d < 2 ^ 24 = omega (arith, hb, hc, hd) in
-    let r2 : c * 2 ^ 8 + d < 2 ^ 16 = omega (arith, hc, hd) in
-    cons (ap (λ (x : ℕ). x % 2 ^ 8) (ap (λ (x : ℕ). x / 2 ^ 24) e3 ∙ digits-div a r3) ∙ mod-eq-of-lt ha)
-    (cons (ap (λ (x : ℕ). x % 2 ^ 8) (ap (λ (x : ℕ). x / 2 ^ 16) e2 ∙ digits-div (a * 2 ^ 8 + b) r2) ∙ digits-mod a hb)
-    (cons (ap (λ (x : ℕ). x % 2 ^ 8) (digits-div ((a * 2 ^ 8 + b) * 2 ^ 8 + c) hd) ∙ digits-mod (a * 2 ^ 8 + b) hc)
-    (cons (digits-mod ((a * 2 ^ 8 + b) * 2 ^ 8 + c) hd) refl)))
-
-pub tab-same : (n : ℕ) (f g : ℕ → ℕ) → ((i : ℕ) → f i ≡ g i) → tab n f ≡ tab n g
-tab-same zero f g h = refl
-tab-same (suc n) f g h = cons (h zero) (tab-same n (λ i. f (suc i)) (λ i. g (suc i)) (λ i. h (suc i)))
 
 -- a word past the first four bytes
 word-past : (a b c d : ℕ) (s : List ℕ) (i : ℕ) → wordAt (a ∷ b ∷ c ∷ d ∷ s) (4 * suc i) ≡ wordAt s (4 * i)
@@ -76,7 +57,7 @@ spelt-back (suc m) (a ∷ b ∷ []) h e = absurd (omega (arith, e))
 spelt-back (suc m) (a ∷ b ∷ c ∷ []) h e = absurd (omega (arith, e))
 spelt-back (suc m) (a ∷ b ∷ c ∷ d ∷ s) (more ha (more hb (more hc (more hd h)))) e =
     ap₂ _++_ (word-told a b c d ha hb hc hd)
-    (ap spelt (tab-same m (λ i. wordAt (a ∷ b ∷ c ∷ d ∷ s) (4 * suc i)) (λ i. wordAt s (4 * i)) (word-past a b c d s)) ∙ spelt-back m s h (omega (arith, e)))
+    (ap spelt (tab-agree m (λ i. wordAt (a ∷ b ∷ c ∷ d ∷ s) (4 * suc i)) (λ i. wordAt s (4 * i)) (λ i _. word-past a b c d s i)) ∙ spelt-back m s h (omega (arith, e)))
 
 -- the bytes of the first words
 pub spelt-take : (m : ℕ) (w : List ℕ) → take (4 * m) (spelt w) ≡ spelt (take m w)

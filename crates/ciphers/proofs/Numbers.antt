@@ -15,6 +15,14 @@ use Rattle.command.specs.Decode.{numberOf, readOf}
 use Rattle.ciphers.specs.Table.{isCipher}
 use Rattle.words.proofs.Tests.{both-false}
 
+pub is-cipher : (c : Cipher) → isCipher (numberOf c) ≡ true
+is-cipher Zuc = refl
+is-cipher Rabbit = refl
+is-cipher Snow128 = refl
+is-cipher Snow256 = refl
+is-cipher Kcipher2 = refl
+is-cipher Mugi = refl
+
 -- a byte, and what is read from it
 pub data Reads (b : ℕ) : CipherRead → Type 0 where
   reads : {c : Cipher} → b ≡ numberOf c → isCipher b ≡ true → Reads b (Is c)

@@ -1,9 +1,10 @@
 -- What the card relies on of every cipher, by number: a unit of at least one byte, states that stay fit from S(0) on, and outputs of u bytes. It follows once for any cipher from the laws of
 -- what it fills.
 -- Assumes nothing.
-use mathlib.Core.Path.{_≡_}
+use mathlib.Core.Path.{_≡_, sym, subst}
 use mathlib.Core.List.{List}
-use Prim.Native.Nat.{ℕ, zero, _<_}
+use Prim.Native.Nat.{ℕ, zero, _%_, _<_}
+use native.Mathlib.Nat.{mod-lt}
 use lib.Dec.{lit<}
 use lib.ListN.{length}
 use Rattle.words.specs.Lists.{All, Byte}
@@ -153,3 +154,10 @@ unfolding zuc rabbit snow128 snow256 kcipher2 mugi
 sound =
     every-row Sound (sound-row zucFace ZR.InRange zuc-laws) (sound-row rabbitFace RR.InRange rabbit-laws) (sound-row snow128Face SR.InRange snow128-laws)
     (sound-row snow256Face SR.InRange snow256-laws) (sound-row kcipher2Face KR.InRange kcipher2-laws) (sound-row mugiFace MR.InRange mugi-laws)
+
+-- its unit, as the code reads it, is not 0, and what is left of a position lies within it
+pub unit-up : (c u : ℕ) → u ≡ cipherAt c .gen .unit → 0 < u
+unit-up c u e = subst (λ (x : ℕ). 0 < x) (sym e) (sound c .unit-pos)
+
+pub place-within : (c n u : ℕ) → u ≡ cipherAt c .gen .unit → n % u < cipherAt c .gen .unit
+place-within c n u e = subst (λ (x : ℕ). n % x < cipherAt c .gen .unit) (sym e) (mod-lt n (sound c .unit-pos))

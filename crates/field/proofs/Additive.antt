@@ -1,13 +1,14 @@
--- Products are additive: sums pass through them, in GF(2^8) by induction on the digits of a factor, in GF(2^32) byte by byte. An additive function on
+-- Products are additive: sums pass through them, modulo a polynomial over GF(2) by induction on the digits of a factor, in GF(2^32) byte by byte. An additive function on
 -- words is known by its values at the 32 powers of 2, which is a test that is computed; and the list of its values is made from those at powers of 2.
 -- Assumes nothing.
 use mathlib.Core.Path.{_≡_, refl, ap, ap₂, sym, _∙_, subst}
 use mathlib.Core.Bool.{Bool, true}
 use mathlib.Core.List.{List, [], _∷_, _++_, map}
-use Prim.Native.Nat.{ℕ, zero, suc, _+_, _*_, _/_, _%_, _<_, _^_}
+use Prim.Native.Nat.{ℕ, zero, suc, _+_, _-_, _*_, _/_, _%_, _<_, _^_}
 use native.Mathlib.Nat.{mod-lt, add-zero, zero-add, suc-add, not-suc-le-zero, le-of-suc-le-suc, zero-mul, one-mul}
 use native.Mathlib.Numerals.{one-add}
 use native.Mathlib.Omega.{arith}
+use native.Mathlib.Decide.{decLt}
 use lib.Arith.{lt-one}
 use lib.Bits.{bitXor, xor-shr, xor-mod, xor-block, xor-lt, xor-zero-r, xor-self, xor-shifted}
 use lib.Dec.{lit<, eqb, eqb→eq, T}
@@ -19,7 +20,8 @@ use Rattle.words.specs.Tests.{both}
 use Rattle.words.proofs.Table.{both-left, both-right}
 use Rattle.words.proofs.Ranges.{byte-of}
 use Rattle.words.proofs.Xor.{xor-swap, word-xor}
-use Rattle.field.specs.Gf8.{ifOne, timesX, mulDigits, mul8}
+use Rattle.field.specs.Gf2.{ifOne, timesX, mulDigits}
+use Rattle.field.specs.Gf8.{mul8}
 use Rattle.field.specs.Gf32.{Field, scale, timesY, times}
 
 -- f passes sums through
@@ -32,58 +34,71 @@ sum-of f g hf hg u v = ap₂ bitXor (hf u v) (hg u v) ∙ xor-swap (f u) (f v) (
 pub then-of : (f g : ℕ → ℕ) → Additive f → Additive g → Additive (λ w. f (g w))
 then-of f g hf hg u v = ap f (hg u v) ∙ hf (g u) (g v)
 
--- ---- GF(2^8)
+-- ---- products modulo a polynomial of degree d
 
 ifOne-sum : (d a b : ℕ) → ifOne d (a ⊕ b) ≡ ifOne d a ⊕ ifOne d b
 ifOne-sum zero a b = refl
 ifOne-sum (suc d) a b = refl
 
-ifOne-digit : (d e p : ℕ) → d < 2 → e < 2 → ifOne (d ⊕ e) p ≡ ifOne d p ⊕ ifOne e p
+pub ifOne-digit : (d e p : ℕ) → d < 2 → e < 2 → ifOne (d ⊕ e) p ≡ ifOne d p ⊕ ifOne e p
 ifOne-digit zero e p hd he = refl
 ifOne-digit (suc zero) zero p hd he = sym (xor-zero-r p)
 ifOne-digit (suc zero) (suc zero) p hd he = sym (xor-self p)
 ifOne-digit (suc zero) (suc (suc e)) p hd he = absurd (not-suc-le-zero (le-of-suc-le-suc (le-of-suc-le-suc he)))
 ifOne-digit (suc (suc d)) e p hd he = absurd (not-suc-le-zero (le-of-suc-le-suc (le-of-suc-le-suc hd)))
 
-digit : (x : ℕ) → x % 2 < 2
+pub digit : (x : ℕ) → x % 2 < 2
 digit x = mod-lt x (lit< tt)
 
-double-sum : (a b : ℕ) → (a ⊕ b) * 2 ≡ (a * 2) ⊕ (b * 2)
+pub double-sum : (a b : ℕ) → (a ⊕ b) * 2 ≡ (a * 2) ⊕ (b * 2)
 double-sum a b =
     sym (ap₂ bitXor (sym (add-zero (a * 2))) (sym (add-zero (b * 2))) ∙ xor-block 1 a b 0 0 (lit< tt) (lit< tt) ∙ add-zero ((a ⊕ b) * 2))
 
-timesX-sum : (p : ℕ) → Additive (timesX p)
-timesX-sum p a b =
-    ap₂ (λ (x y : ℕ). (x % 2 ^ 8) ⊕ ifOne y (p % 2 ^ 8)) (double-sum a b) (ap (λ (x : ℕ). x % 2) (xor-shr a b 7) ∙ xor-mod (a / 2 ^ 7) (b / 2 ^ 7) 1)
-    ∙ ap₂ bitXor (xor-mod (a * 2) (b * 2) 8) (ifOne-digit (a / 2 ^ 7 % 2) (b / 2 ^ 7 % 2) (p % 2 ^ 8) (digit (a / 2 ^ 7)) (digit (b / 2 ^ 7)))
-    ∙ xor-swap (a * 2 % 2 ^ 8) (b * 2 % 2 ^ 8) (ifOne (a / 2 ^ 7 % 2) (p % 2 ^ 8)) (ifOne (b / 2 ^ 7 % 2) (p % 2 ^ 8))
+ifOne-lt : (d e b : ℕ) → b < 2 ^ d → ifOne e b < 2 ^ d
+ifOne-lt d zero b h = pow-pos d
+ifOne-lt d (suc e) b h = h
 
-pub mul-sum : (p n c : ℕ) → Additive (λ a. mulDigits p n a c)
-mul-sum p zero c a b = refl
-mul-sum p (suc n) c a b =
-    ap₂ bitXor (ifOne-sum (c % 2) a b) (ap (λ (x : ℕ). mulDigits p n x (c / 2)) (timesX-sum p a b) ∙ mul-sum p n (c / 2) (timesX p a) (timesX p b))
-    ∙ xor-swap (ifOne (c % 2) a) (ifOne (c % 2) b) (mulDigits p n (timesX p a) (c / 2)) (mulDigits p n (timesX p b) (c / 2))
+module _ (d p : ℕ) where
+  top : ℕ → ℕ
+  top a = a / 2 ^ (d - 1) % 2
+
+  pub timesX-sum : Additive (timesX d p)
+  unfolding top
+  timesX-sum a b =
+      ap₂ (λ (x y : ℕ). (x % 2 ^ d) ⊕ ifOne y (p % 2 ^ d)) (double-sum a b)
+      (ap (λ (x : ℕ). x % 2) (xor-shr a b (d - 1)) ∙ xor-mod (a / 2 ^ (d - 1)) (b / 2 ^ (d - 1)) 1)
+      ∙ ap₂ bitXor (xor-mod (a * 2) (b * 2) d) (ifOne-digit (top a) (top b) (p % 2 ^ d) (digit (a / 2 ^ (d - 1))) (digit (b / 2 ^ (d - 1))))
+      ∙ xor-swap (a * 2 % 2 ^ d) (b * 2 % 2 ^ d) (ifOne (top a) (p % 2 ^ d)) (ifOne (top b) (p % 2 ^ d))
+
+  pub timesX-lt : (a : ℕ) → timesX d p a < 2 ^ d
+  timesX-lt a =
+      xor-lt d (a * 2 % 2 ^ d) (ifOne (a / 2 ^ (d - 1) % 2) (p % 2 ^ d)) (mod-lt (a * 2) (pow-pos d))
+      (ifOne-lt d (a / 2 ^ (d - 1) % 2) (p % 2 ^ d) (mod-lt p (pow-pos d)))
+
+-- by whatever makes a product with x, if it is additive and has d digits
+module _ (byX : ℕ → ℕ) (hx : Additive byX) where
+  pub mul-sum : (n c : ℕ) → Additive (λ a. mulDigits byX n a c)
+  mul-sum zero c a b = refl
+  mul-sum (suc n) c a b =
+      ap₂ bitXor (ifOne-sum (c % 2) a b) (ap (λ (x : ℕ). mulDigits byX n x (c / 2)) (hx a b) ∙ mul-sum n (c / 2) (byX a) (byX b))
+      ∙ xor-swap (ifOne (c % 2) a) (ifOne (c % 2) b) (mulDigits byX n (byX a) (c / 2)) (mulDigits byX n (byX b) (c / 2))
 
 -- the same in the other factor
-pub mul-sum-r : (p n a : ℕ) → Additive (mulDigits p n a)
-mul-sum-r p zero a c d = refl
-mul-sum-r p (suc n) a c d =
-    ap₂ (λ (x y : ℕ). ifOne x a ⊕ mulDigits p n (timesX p a) y) (xor-mod c d 1) (xor-shr c d 1)
-    ∙ ap₂ bitXor (ifOne-digit (c % 2) (d % 2) a (digit c) (digit d)) (mul-sum-r p n (timesX p a) (c / 2) (d / 2))
-    ∙ xor-swap (ifOne (c % 2) a) (ifOne (d % 2) a) (mulDigits p n (timesX p a) (c / 2)) (mulDigits p n (timesX p a) (d / 2))
+pub mul-sum-r : (byX : ℕ → ℕ) (n a : ℕ) → Additive (mulDigits byX n a)
+mul-sum-r byX zero a c d = refl
+mul-sum-r byX (suc n) a c d =
+    ap₂ (λ (x y : ℕ). ifOne x a ⊕ mulDigits byX n (byX a) y) (xor-mod c d 1) (xor-shr c d 1)
+    ∙ ap₂ bitXor (ifOne-digit (c % 2) (d % 2) a (digit c) (digit d)) (mul-sum-r byX n (byX a) (c / 2) (d / 2))
+    ∙ xor-swap (ifOne (c % 2) a) (ifOne (d % 2) a) (mulDigits byX n (byX a) (c / 2)) (mulDigits byX n (byX a) (d / 2))
 
-ifOne-byte : (d b : ℕ) → Byte b → Byte (ifOne d b)
-ifOne-byte zero b h = lit< tt
-ifOne-byte (suc d) b h = h
-
-timesX-byte : (p a : ℕ) → Byte (timesX p a)
-timesX-byte p a = xor-lt 8 (a * 2 % 2 ^ 8) (ifOne (a / 2 ^ 7 % 2) (p % 2 ^ 8)) (byte-of (a * 2)) (ifOne-byte (a / 2 ^ 7 % 2) (p % 2 ^ 8) (byte-of p))
+pub mul-lt : (d : ℕ) (byX : ℕ → ℕ) → ((a : ℕ) → byX a < 2 ^ d) → (n a c : ℕ) → a < 2 ^ d → mulDigits byX n a c < 2 ^ d
+mul-lt d byX hx zero a c h = pow-pos d
+mul-lt d byX hx (suc n) a c h =
+    xor-lt d (ifOne (c % 2) a) (mulDigits byX n (byX a) (c / 2)) (ifOne-lt d (c % 2) a h) (mul-lt d byX hx n (byX a) (c / 2) (hx a))
 
 -- products are bytes
-pub mul-byte : (p n a c : ℕ) → Byte a → Byte (mulDigits p n a c)
-mul-byte p zero a c h = lit< tt
-mul-byte p (suc n) a c h =
-    xor-lt 8 (ifOne (c % 2) a) (mulDigits p n (timesX p a) (c / 2)) (ifOne-byte (c % 2) a h) (mul-byte p n (timesX p a) (c / 2) (timesX-byte p a))
+pub mul-byte : (p n a c : ℕ) → Byte a → Byte (mulDigits (timesX 8 p) n a c)
+mul-byte p n a c h = mul-lt 8 (timesX 8 p) (timesX-lt 8 p) n a c h
 
 -- ---- words
 
@@ -117,13 +132,13 @@ module _ (f : Field) where
       (λ w. mul-byte (f .modulus) 8 (b0 w) c (byte-of w))
     where
       by : Additive (λ x. mul8 (f .modulus) x c)
-      by = mul-sum (f .modulus) 8 c
+      by = mul-sum (timesX 8 (f .modulus)) (timesX-sum 8 (f .modulus)) 8 c
 
   -- and in the scalar
   pub scale-sum-r : (w : ℕ) → Additive (λ c. scale f c w)
   scale-sum-r w =
       word-sum (λ c. mul8 (f .modulus) (b3 w) c) (λ c. mul8 (f .modulus) (b2 w) c) (λ c. mul8 (f .modulus) (b1 w) c) (λ c. mul8 (f .modulus) (b0 w) c)
-      (mul-sum-r (f .modulus) 8 (b3 w)) (mul-sum-r (f .modulus) 8 (b2 w)) (mul-sum-r (f .modulus) 8 (b1 w)) (mul-sum-r (f .modulus) 8 (b0 w))
+      (mul-sum-r (timesX 8 (f .modulus)) 8 (b3 w)) (mul-sum-r (timesX 8 (f .modulus)) 8 (b2 w)) (mul-sum-r (timesX 8 (f .modulus)) 8 (b1 w)) (mul-sum-r (timesX 8 (f .modulus)) 8 (b0 w))
       (λ c. mul-byte (f .modulus) 8 (b2 w) c (byte-of (w / 2 ^ 16))) (λ c. mul-byte (f .modulus) 8 (b1 w) c (byte-of (w / 2 ^ 8)))
       (λ c. mul-byte (f .modulus) 8 (b0 w) c (byte-of w))
 
@@ -159,25 +174,38 @@ abbrev pub agree : (ℕ → ℕ) → (ℕ → ℕ) → ℕ → Bool
 agree f g zero = true
 agree f g (suc n) = both (eqb (f (2 ^ n)) (g (2 ^ n))) (agree f g n)
 
+pub agree-at : (f g : ℕ → ℕ) (n : ℕ) → T (agree f g n) → (i : ℕ) → i < n → f (2 ^ i) ≡ g (2 ^ i)
+agree-at f g zero t i h = absurd (not-suc-le-zero h)
+agree-at f g (suc n) t i h = by (decLt i n) (λ q. agree-at f g n (both-right (eqb (f (2 ^ n)) (g (2 ^ n))) (agree f g n) t) i q)
+  where
+    by : Dec (i < n) → (i < n → f (2 ^ i) ≡ g (2 ^ i)) → f (2 ^ i) ≡ g (2 ^ i)
+    by (yes q) r = r q
+    by (no q) r =
+        let e : i ≡ n = omega (arith, h, q) in
+        subst (λ (x : ℕ). f (2 ^ x) ≡ g (2 ^ x)) (sym e) (eqb→eq (f (2 ^ n)) (g (2 ^ n)) (both-left (eqb (f (2 ^ n)) (g (2 ^ n))) (agree f g n) t))
+
 module _ (f g : ℕ → ℕ) (hf : Additive f) (hg : Additive g) (h0 : f 0 ≡ g 0) where
-  at-digit : (n d : ℕ) → d < 2 → T (eqb (f (2 ^ n)) (g (2 ^ n))) → f (d * 2 ^ n) ≡ g (d * 2 ^ n)
+  at-digit : (n d : ℕ) → d < 2 → f (2 ^ n) ≡ g (2 ^ n) → f (d * 2 ^ n) ≡ g (d * 2 ^ n)
   at-digit n zero h t = ap f (zero-mul (2 ^ n)) ∙ h0 ∙ ap g (sym (zero-mul (2 ^ n)))
-  at-digit n (suc zero) h t = ap f (one-mul (2 ^ n)) ∙ eqb→eq (f (2 ^ n)) (g (2 ^ n)) t ∙ ap g (sym (one-mul (2 ^ n)))
+  at-digit n (suc zero) h t = ap f (one-mul (2 ^ n)) ∙ t ∙ ap g (sym (one-mul (2 ^ n)))
   at-digit n (suc (suc d)) h t = absurd (not-suc-le-zero (le-of-suc-le-suc (le-of-suc-le-suc h)))
 
-  pub extend : (n : ℕ) → T (agree f g n) → (w : ℕ) → w < 2 ^ n → f w ≡ g w
-  extend zero t w h = ap f (lt-one h) ∙ h0 ∙ ap g (sym (lt-one h))
-  extend (suc n) t w h =
+  pub known : (n : ℕ) → ((i : ℕ) → i < n → f (2 ^ i) ≡ g (2 ^ i)) → (w : ℕ) → w < 2 ^ n → f w ≡ g w
+  known zero t w h = ap f (lt-one h) ∙ h0 ∙ ap g (sym (lt-one h))
+  known (suc n) t w h =
       ap f cut ∙ hf (w / 2 ^ n * 2 ^ n) (w % 2 ^ n)
-      ∙ ap₂ bitXor (at-digit n (w / 2 ^ n) top (both-left (eqb (f (2 ^ n)) (g (2 ^ n))) (agree f g n) t))
-      (extend n (both-right (eqb (f (2 ^ n)) (g (2 ^ n))) (agree f g n) t) (w % 2 ^ n) (mod-lt w (pow-pos n)))
+      ∙ ap₂ bitXor (at-digit n (w / 2 ^ n) under (t n (omega arith))) (known n (λ i q. t i (omega (arith, q))) (w % 2 ^ n) (mod-lt w (pow-pos n)))
       ∙ sym (ap g cut ∙ hg (w / 2 ^ n * 2 ^ n) (w % 2 ^ n))
     where
       cut : w ≡ (w / 2 ^ n * 2 ^ n) ⊕ (w % 2 ^ n)
       cut = sym (xor-shifted (w / 2 ^ n) n (w % 2 ^ n) (mod-lt w (pow-pos n)) ∙ split w n)
 
-      top : w / 2 ^ n < 2
-      top = shr-lt 1 n (subst (λ (x : ℕ). w < 2 ^ x) (sym (one-add n)) h)
+      under : w / 2 ^ n < 2
+      under = shr-lt 1 n (subst (λ (x : ℕ). w < 2 ^ x) (sym (one-add n)) h)
+
+  -- where that is tested
+  pub extend : (n : ℕ) → T (agree f g n) → (w : ℕ) → w < 2 ^ n → f w ≡ g w
+  extend n t w h = known n (agree-at f g n t) w h
 
 -- ---- and so is the list of its values
 

@@ -1,3 +1,4 @@
+pub mod Gf2
 pub mod Gf8
 pub mod Gf32
 pub mod Aes

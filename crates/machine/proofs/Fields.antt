@@ -9,7 +9,7 @@ use lib.ListN.{length, getD, replicate, length-append}
 use lib.Seq.{getD-append-add}
 use lib.Pow.{mod-pow-add}
 use Rattle.ciphers.specs.States.{stateWords, spelt}
-use Rattle.ciphers.proofs.Kept.{tab-same}
+use Rattle.keystream.proofs.Tables.{tab-agree}
 use Rattle.words.specs.Lists.{All, more as more-words, Word, tab}
 use Rattle.words.specs.Word.{word}
 use Rattle.words.specs.Strings.{wordAt, bytesOf}
@@ -81,7 +81,7 @@ pub words-read : (n : ℕ) (s : List ℕ) (i : ℕ) → fieldsAt (replicate n 4)
 words-read zero s i = refl
 words-read (suc n) s i =
     ap₂ _∷_ (word-number s i ∙ ap (wordAt s) (let e : i ≡ i + 4 * 0 = omega arith in e))
-    (words-read n s (i + 4) ∙ tab-same n (λ k. wordAt s (i + 4 + 4 * k)) (λ k. wordAt s (i + 4 * suc k)) (λ k. ap (wordAt s) (let e : i + 4 + 4 * k ≡ i + 4 * suc k = omega arith in e)))
+    (words-read n s (i + 4) ∙ tab-agree n (λ k. wordAt s (i + 4 + 4 * k)) (λ k. wordAt s (i + 4 * suc k)) (λ k _. ap (wordAt s) (let e : i + 4 + 4 * k ≡ i + 4 * suc k = omega arith in e)))
 
 -- a field of eight bytes is two words
 high : (x k : ℕ) → x / 2 ^ 32 / 2 ^ k % 2 ^ 8 ≡ x / (2 ^ 32 * 2 ^ k) % 2 ^ 8

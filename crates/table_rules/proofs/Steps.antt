@@ -1,53 +1,14 @@
--- Products, the inverse and the affine map as the code works them out, turn by turn, for every polynomial.
+-- Words put through a function byte by byte, and the affine map as the code works it out.
 -- Assumes nothing.
-use mathlib.Core.Path.{_≡_, refl, ap, ap₂, sym, _∙_}
+use mathlib.Core.Path.{_≡_, ap, ap₂, _∙_}
 use mathlib.Core.List.{List}
-use Prim.Native.Nat.{ℕ, zero, suc, _+_, _-_, _*_, _/_, _%_, _^_, _<_, _≤_}
-use native.Mathlib.Nat.{not-suc-le-zero}
-use native.Mathlib.Numerals.{sub-one}
+use Prim.Native.Nat.{ℕ, _+_, _*_, _/_, _%_, _^_}
 use native.Mathlib.Omega.{arith}
-use lib.Bits.{xor-zero-r}
 use lib.ListN.{getD}
 use Rattle.words.specs.Strings.{bytesOf}
 use Rattle.words.specs.Lists.{Byte}
 use Rattle.words.specs.Word.{_⊕_, word, b0, b1, b2, b3}
-use Rattle.words.proofs.Xor.{xor-assoc}
-use Rattle.field.specs.Gf8.{ifOne, timesX, mulDigits, mul8, squares}
 use Rattle.field.specs.Aes.{affine}
-
--- a digit that is not 0 is 1
-pub ifOne-one : (d a : ℕ) → (d ≡ 0 → ⊥) → a ≡ ifOne d a
-ifOne-one zero a h = absurd (h refl)
-ifOne-one (suc d) a h = refl
-
-pub ifOne-none : (d a : ℕ) → d ≡ 0 → 0 ≡ ifOne d a
-ifOne-none d a e = ap (λ (k : ℕ). ifOne k a) (sym e)
-
--- a digit of the second factor is taken into the sum
-pub digit-taken : (p sum x y left : ℕ) {t : ℕ} → 0 < left → sum ⊕ mulDigits p left x y ≡ t →
-    (sum ⊕ ifOne (y % 2) x) ⊕ mulDigits p (left - 1) (timesX p x) (y / 2) ≡ t
-digit-taken p sum x y zero h e = absurd (not-suc-le-zero h)
-digit-taken p sum x y (suc n) h e =
-    ap (λ (k : ℕ). (sum ⊕ ifOne (y % 2) x) ⊕ mulDigits p k (timesX p x) (y / 2)) (sub-one (suc n))
-    ∙ xor-assoc sum (ifOne (y % 2) x) (mulDigits p n (timesX p x) (y / 2))
-    ∙ e
-
--- no digit is left
-pub digits-done : (p sum x y left : ℕ) {t : ℕ} → left ≤ 0 → sum ⊕ mulDigits p left x y ≡ t → sum ≡ t
-digits-done p sum x y zero h e = sym (xor-zero-r sum) ∙ e
-digits-done p sum x y (suc n) h e = absurd (not-suc-le-zero h)
-
--- a square is taken into the product
-pub square-taken : (p left r a : ℕ) {s q t : ℕ} → 0 < left → s ≡ mul8 p a a → q ≡ mul8 p r s → squares p left r a ≡ t → squares p (left - 1) q s ≡ t
-unfolding squares
-square-taken p zero r a h e f g = absurd (not-suc-le-zero h)
-square-taken p (suc n) r a h e f g = rw (sub-one (suc n), f, e) g
-
--- no square is left
-pub squares-done : (p left r a : ℕ) {t : ℕ} → left ≤ 0 → squares p left r a ≡ t → r ≡ t
-unfolding squares
-squares-done p zero r a h e = e
-squares-done p (suc n) r a h e = absurd (not-suc-le-zero h)
 
 -- what is made of one argument is made of an equal one
 pub made-of : (m : ℕ → ℕ) {x y r : ℕ} → x ≡ y → r ≡ m x → r ≡ m y

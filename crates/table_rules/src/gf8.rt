@@ -1,6 +1,7 @@
 // GF(2^8) over a polynomial p of degree 8, worked out digit by digit: products, the inverse, AES's substitution, and a word times an element.
 ghost use mathlib.Core.Path.{_≡_};
-ghost use Rattle.field.specs.Gf8.{ifOne, timesX, mul8, inverse as Gf8·inverse};
+ghost use Rattle.field.specs.Gf2.{ifOne, timesX};
+ghost use Rattle.field.specs.Gf8.{mul8, inverse as Gf8·inverse};
 ghost use Rattle.field.specs.Gf32.{scaled as Gf32·scaled};
 ghost use Rattle.field.specs.Aes.{affine};
 
@@ -16,7 +17,7 @@ fn if_one(d: u8, a: u8) -> u8
 
 // x a modulo p.
 fn times_x(p: u16, a: u8) -> u8
-    ensures { λ r. ⌜ r ≡ timesX p a ⌝ }
+    ensures { λ r. ⌜ r ≡ timesX 8 p a ⌝ }
 {
     let low = (p % 256) as u8;
     (a << 1) ^ if_one((a >> 7) % 2, low)

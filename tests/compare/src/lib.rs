@@ -1,6 +1,6 @@
-//! A second implementation of the cipher card and of the programs `cardrun` and `sheet`, written from the documents and
-//! sharing neither code nor tables with the card's own sources, and what is needed to hold a card and the programs
-//! against it: named cases, command lists and files of records from a seed, and subjects that run them.
+//! A second implementation of the cipher card, of sealed records and of the programs `cardrun` and `sheet`, written
+//! from the documents and sharing neither code nor tables with the card's own sources, and what is needed to hold a card
+//! and the programs against it: named cases, command lists and files of records from a seed, and subjects that run them.
 
 #![forbid(unsafe_code)]
 
@@ -19,6 +19,7 @@ pub mod damage;
 pub mod edges;
 pub mod faulty;
 pub mod field;
+pub mod field64;
 pub mod fill;
 pub mod hex;
 pub mod images;
@@ -44,6 +45,7 @@ pub mod rabbit;
 pub mod random;
 pub mod record;
 pub mod report;
+pub mod sealing;
 pub mod sheet;
 pub mod snow2;
 pub mod spent;

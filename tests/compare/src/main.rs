@@ -1,5 +1,5 @@
-//! Checks the second implementation by annex C, document 01's cases and what named cases have written down, then
-//! holds `cardrun` against it on the named cases and on command lists from a seed, and `sheet` on the named sheets and on
+//! Checks the second implementation by annex C, document 01's cases, what named cases have written down and sealings of
+//! prepared keystreams, then holds `cardrun` against it on the named cases and on command lists from a seed, and `sheet` on the named sheets and on
 //! files of records from that seed. Ends with 0 if all agree and every number was met, else with 1; its last line says
 //! which, as `tests/second`.
 
@@ -9,7 +9,7 @@ use compare::args::{self, Options};
 use compare::cardrun::Cardrun;
 use compare::report;
 use compare::subject::{self, Subject, Which};
-use compare::{annex, cases, named, sheet};
+use compare::{annex, cases, named, sealing, sheet};
 use std::path::PathBuf;
 use std::process::ExitCode;
 
@@ -33,6 +33,7 @@ fn run(options: &Options) -> Result<(), String> {
     println!("document 01: {} cases hold", cases::check()?);
     println!("named cases: {} hold of the second implementation", named::check()?);
     println!("named sheets: {} hold of the second implementation", sheet::named::check()?);
+    println!("sealing: {} cases hold of the second implementation", sealing::check()?);
     if options.lists == 0 {
         println!("second: its own checks passed, no program was run");
         return Ok(());

@@ -3,8 +3,10 @@
 use crate::changes::Change;
 use crate::ledger::{Parked, Resume};
 use crate::loads::Load;
+use crate::sealing;
 use crate::sheet::REFUSALS;
 use crate::subject::Tally;
+use std::fmt::Display;
 use std::io::{self, IsTerminal};
 
 /// A line on standard error now and then, if someone is watching or the run is long.
@@ -34,7 +36,8 @@ impl Progress {
 }
 
 /// The summary: named cases, lists, calls, bytes enciphered, how often each number was met, 255 only if it was, and how
-/// often each kind of park, of resume, of change and of load; and of the programs' records and sheets, if there are any.
+/// often each kind of park, of resume, of change and of load; and of the programs' records and sheets, and of sealings, if
+/// there are any.
 pub fn summary(tally: &Tally) -> String {
     let mut text = format!("named cases {}\nlists {}\ncalls {}\n", tally.named, tally.lists, tally.calls);
     text.push_str(&format!("bytes enciphered {}\n", tally.bytes));
@@ -55,6 +58,9 @@ pub fn summary(tally: &Tally) -> String {
             text.push_str(&format!("{name}: {count}\n"));
         }
     }
+    if tally.sealings.iter().any(|&count| count > 0) {
+        text.push_str(&part("sealing", &sealing::CODES.map(|code| code.to_string()), &tally.sealings));
+    }
     text
 }
 
@@ -64,7 +70,7 @@ fn sheet_names() -> impl Iterator<Item = String> {
 }
 
 /// A heading, and how often each kind was met.
-fn part(what: &str, names: &[&str], counts: &[u64]) -> String {
+fn part(what: &str, names: &[impl Display], counts: &[u64]) -> String {
     let lines = names.iter().zip(counts).map(|(name, count)| format!("{name}: {count}\n"));
     [format!("{what} met\n")].into_iter().chain(lines).collect()
 }
@@ -72,7 +78,7 @@ fn part(what: &str, names: &[&str], counts: &[u64]) -> String {
 /// The numbers and the kinds of park, of resume, of change and of load that were never met. Number 15, the parks beside it
 /// and up to it, 255 and an image from before the list are asked for only if cards are handed in: a fresh card doesn't come
 /// to them. Records, and a sheet that is reported and one for each of its numbers, are asked for only if they aren't: these
-/// are of the programs.
+/// are of the programs. The codes of sealings are asked for only if cards are: no program seals.
 pub fn missing(tally: &Tally, handed_in: bool) -> Vec<String> {
     let numbers = (0..).zip(tally.codes).chain([(255, tally.damaged)]);
     let numbers = numbers.filter(|&(number, count)| count == 0 && (handed_in || ![15, 255].contains(&number)));
@@ -85,13 +91,23 @@ pub fn missing(tally: &Tally, handed_in: bool) -> Vec<String> {
     let loads = Load::NAMES.iter().zip(tally.loads).filter(|&(_, count)| count == 0);
     let sheets = sheet_names().zip(tally.reports).filter(|&(_, count)| count == 0 && !handed_in);
     let records = (tally.records == 0 && !handed_in).then(|| "a record".to_string());
+    let sealings = sealing::CODES.iter().zip(tally.sealings).filter(|&(_, count)| count == 0 && handed_in);
+    let sealings = sealings.map(|(code, _)| format!("sealing: {code}"));
     let numbers = numbers.map(|(number, _)| number.to_string());
     let parks = parks.map(|(_, name)| format!("park: {name}"));
     let resumes = resumes.map(|(_, name)| format!("resume: {name}"));
     let changes = changes.map(|(name, _)| format!("change of key: {name}"));
     let loads = loads.map(|(name, _)| format!("load: {name}"));
     let sheets = sheets.map(|(name, _)| format!("sheet: {name}"));
-    numbers.chain(parks).chain(resumes).chain(changes).chain(loads).chain(records).chain(sheets).collect()
+    numbers
+        .chain(parks)
+        .chain(resumes)
+        .chain(changes)
+        .chain(loads)
+        .chain(records)
+        .chain(sheets)
+        .chain(sealings)
+        .collect()
 }
 
 /// The last line of a run in which nothing differed, for the part of the tests that it is: the named cases, the lists and
@@ -129,6 +145,8 @@ mod tests {
     fn what_was_never_met_is_told() {
         let (parks, resumes, changes, loads) = ([1; 5], [1; 11], [1; 9], [1; 16]);
         let mut tally = Tally { codes: [1; 20], damaged: 1, parks, resumes, changes, loads, ..Tally::default() };
+        assert_eq!(missing(&tally, true).len(), sealing::CODES.len());
+        sealing::CODES.into_iter().for_each(|code| tally.count_sealing(code));
         assert!(missing(&tally, true).is_empty());
         let programs = ["a record", "sheet: reported", "sheet: 20", "sheet: 21", "sheet: 22"];
         assert_eq!(missing(&tally, false), owned(&programs));
@@ -137,6 +155,7 @@ mod tests {
         (tally.damaged, tally.resumes[4], tally.resumes[10], tally.changes[1]) = (0, 0, 0, 0);
         tally.parks[1..].fill(0);
         tally.loads[..3].fill(0);
+        tally.sealings[7] = 0;
         let (zero, earlier) = ("resume: 14, number 0", "resume: 14, from before the list");
         let (same, beside) =
             ("park: with the number of another line's last", "park: beside a line with no number left");
@@ -145,7 +164,8 @@ mod tests {
         let loads = ["load: loaded", "load: started by the next call", "load: started after other calls"];
         let fresh = [&["14", "16", "17", "18", "19", same, zero, change][..], &loads, &["sheet: 21"]].concat();
         let numbers = ["14", "15", "16", "17", "18", "19", "255"];
-        let other = [&numbers[..], &[same, beside, last, used_up, zero, earlier, change], &loads].concat();
+        let kinds = [same, beside, last, used_up, zero, earlier, change];
+        let other = [&numbers[..], &kinds, &loads, &["sealing: 24"]].concat();
         assert_eq!((missing(&tally, false), missing(&tally, true)), (owned(&fresh), owned(&other)));
     }
 

@@ -8,13 +8,15 @@ use crate::loads::{Load, Loads};
 use crate::machine::Answer;
 use crate::named::{self, Case};
 use crate::report::Progress;
+use crate::sealing;
 use crate::sheet::REFUSALS;
 use std::ops::Range;
 
 /// What lists came to by the second implementation: named cases, lists of the seed, calls of both, the bytes that their
 /// crypts took, how often each code was met, 255 for a damaged card apart from the others, and how often each kind of
 /// park, of resume, of change and of load on a card whose parks and lines are known; the records that runs of `cardrun` append;
-/// and files of the seed for `sheet`, and how often sheets were reported and refused with each of its numbers.
+/// files of the seed for `sheet`, and how often sheets were reported and refused with each of its numbers; and how often a
+/// sealing or an opening met each of its codes.
 #[derive(Clone, Debug, Default, PartialEq, Eq)]
 pub struct Tally {
     pub named: u64,
@@ -30,6 +32,7 @@ pub struct Tally {
     pub records: u64,
     pub sheets: u64,
     pub reports: [u64; 1 + REFUSALS.len()],
+    pub sealings: [u64; sealing::CODES.len()],
 }
 
 impl Tally {
@@ -39,6 +42,13 @@ impl Tally {
         self.bytes += answer.used_data as u64;
         let count = if answer.code == 255 { &mut self.damaged } else { &mut self.codes[usize::from(answer.code)] };
         *count += 1;
+    }
+
+    /// Counts a sealing or an opening.
+    pub fn count_sealing(&mut self, code: u8) {
+        for (count, _) in self.sealings.iter_mut().zip(sealing::CODES).filter(|&(_, met)| met == code) {
+            *count += 1;
+        }
     }
 
     /// Counts a call of a list whose parks the ledger has.
@@ -75,8 +85,10 @@ impl Tally {
         self.sheets += other.sheets;
         let sums = self.codes.iter_mut().chain(&mut self.parks).chain(&mut self.resumes);
         let counts = other.codes.iter().chain(&other.parks).chain(&other.resumes);
-        let sums = sums.chain(&mut self.changes).chain(&mut self.loads).chain(&mut self.reports);
-        for (sum, count) in sums.zip(counts.chain(&other.changes).chain(&other.loads).chain(&other.reports)) {
+        let sums =
+            sums.chain(&mut self.changes).chain(&mut self.loads).chain(&mut self.reports).chain(&mut self.sealings);
+        let counts = counts.chain(&other.changes).chain(&other.loads).chain(&other.reports).chain(&other.sealings);
+        for (sum, count) in sums.zip(counts) {
             *sum += count;
         }
     }

@@ -1,7 +1,8 @@
 //! The linked card as a subject: the named cases and call lists of a seed on it, and with each list the same calls on
-//! cards whose words are changed.
+//! cards whose words are changed, and sealings.
 
 use crate::lent::{self, COUNTS};
+use crate::records;
 use crate::struck;
 use compare::calls::{CallByCall, Card, OwnCall};
 use compare::machine::{Answer, Machine};
@@ -59,6 +60,7 @@ impl Subject for Interface {
     fn hold(&mut self, seed: u64, number: u64) -> Result<Tally, String> {
         let mut tally = self.lists.hold(seed, number)?;
         tally.add(&struck::hold(seed, number)?);
+        tally.add(&records::of_seed(seed, number)?);
         Ok(tally)
     }
 }

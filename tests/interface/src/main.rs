@@ -1,7 +1,7 @@
 //! Holds the card's C interface, linked as a program in C or Rust links it, against the second implementation: cards
-//! that are damaged, card buffers and counts of other lengths, the named cases, and call lists from a seed; and pairs of
-//! lists that are alike against each other. Ends with 0 if all agree and every number was met, else with 1; its last line
-//! says which, as `tests/linked`.
+//! that are damaged, card buffers and counts of other lengths, sealed records, the named cases, and call lists from a seed;
+//! and pairs of lists that are alike against each other. Ends with 0 if all agree and every number was met, else with 1;
+//! its last line says which, as `tests/linked`.
 
 #![forbid(unsafe_code)]
 
@@ -20,6 +20,7 @@ mod loaded;
 mod loads;
 mod long;
 mod numbers;
+mod records;
 mod room;
 mod struck;
 mod waiting;
@@ -62,7 +63,7 @@ fn run(options: &Options) -> Result<(), String> {
     Ok(())
 }
 
-/// The named cards, each with calls that would meet every other code.
+/// The named cards, each with calls that would meet every other code, and the named records.
 fn named() -> Result<Tally, String> {
     let groups = [
         ("cards with a damaged line", damages::hold()?),
@@ -77,7 +78,7 @@ fn named() -> Result<Tally, String> {
         ("pairs of lists that are alike but for data, keys and IVs", alike::hold()?),
     ];
     let mut sum = Tally::default();
-    for (name, tally) in groups {
+    for (name, tally) in groups.into_iter().chain(records::named()?) {
         println!("{name}: {} agree", tally.named);
         sum.add(&tally);
     }

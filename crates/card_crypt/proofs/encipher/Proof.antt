@@ -14,7 +14,8 @@ use Rattle.machine.specs.Machine.{Line, based, shown, along, xored, imageOk}
 use Rattle.machine.proofs.Lines.{state-cipher, state-admits}
 use Rattle.card_line.specs.Words.{lineIn, lineWords}
 use Rattle.card_line.proofs.Lines.{state-slice, head-back}
-use Rattle.card_crypt.proofs.Crypts.{crypted-line, unit-up, place-within}
+use Rattle.ciphers.proofs.Sound.{unit-up, place-within}
+use Rattle.card_crypt.proofs.Crypts.{crypted-line}
 use borrow.Author.Needs.{needs}
 use Rattle.card_crypt.proofs.encipher.Statement.{statement}
 use Rattle.card_crypt.proofs.encipher.Tie as tie

@@ -1,6 +1,6 @@
 -- `table_rules::gf8::if_one` meets its contract: a digit that is not 0 is 1.
 -- Assumes nothing.
-use Rattle.table_rules.proofs.Steps.{ifOne-none, ifOne-one}
+use Rattle.field.proofs.Turns.{ifOne-none, ifOne-one}
 use Rattle.table_rules.proofs.gf8.if_one.Statement.{statement}
 use Rattle.table_rules.proofs.gf8.if_one.Tie as tie
 

@@ -1,14 +1,14 @@
 -- `table_rules::gf8::inverse` meets its contract: what is multiplied and the squares that are left give the inverse.
 -- Assumes nothing.
 use mathlib.Core.Path.{_≡_, refl}
-use Rattle.field.specs.Gf8.{squares, inverse}
-use Rattle.table_rules.proofs.Steps.{square-taken, squares-done}
+use Rattle.field.specs.Gf8.{squares, mul8, inverse}
+use Rattle.field.proofs.Turns.{square-taken, squares-done}
 use borrow.Author.Needs.{needs}
 use Rattle.table_rules.proofs.gf8.inverse.Statement.{statement}
 use Rattle.table_rules.proofs.gf8.inverse.Tie as tie
 
 abbrev Inv-loop : tie.InvT-loop
-Inv-loop p a r₀ s₀ left₀ r s left = squares p left r s ≡ inverse p a
+Inv-loop p a r₀ s₀ left₀ r s left = squares (mul8 p) left r s ≡ inverse p a
 
 abbrev μ-loop : tie.MeasureT-loop
 μ-loop p a r₀ s₀ left₀ r s left = left
@@ -17,12 +17,12 @@ loop-again : tie.Need-loop-again Inv-loop μ-loop
 loop-again c =
     let q = c .before in
     let l = q .before .before in
-    square-taken (l .before .args .p) (l .loop .left) (l .loop .r) (l .loop .s) (q .before .loop-test .taken) (q .product .ensures) (c .product2 .ensures) (l .loop .inv)
+    square-taken (mul8 (l .before .args .p)) (l .loop .left) (l .loop .r) (l .loop .s) (q .before .loop-test .taken) (q .product .ensures) (c .product2 .ensures) (l .loop .inv)
 
 returns : tie.Need-returns Inv-loop μ-loop
 returns c =
     let l = c .before in
-    squares-done (l .before .args .p) (l .loop .left) (l .loop .r) (l .loop .s) (c .loop-test .left) (l .loop .inv)
+    squares-done (mul8 (l .before .args .p)) (l .loop .left) (l .loop .r) (l .loop .s) (c .loop-test .left) (l .loop .inv)
 
 pub inverse-spec : {M : Type 1} → statement M
 inverse-spec =

@@ -3,14 +3,15 @@
 use mathlib.Core.Path.{_≡_, refl}
 use Prim.Native.Nat.{_-_}
 use Rattle.words.specs.Word.{_⊕_}
-use Rattle.field.specs.Gf8.{mulDigits, mul8}
-use Rattle.table_rules.proofs.Steps.{digit-taken, digits-done}
+use Rattle.field.specs.Gf2.{timesX, mulDigits}
+use Rattle.field.specs.Gf8.{mul8}
+use Rattle.field.proofs.Turns.{digit-taken, digits-done}
 use borrow.Author.Needs.{needs}
 use Rattle.table_rules.proofs.gf8.product.Statement.{statement}
 use Rattle.table_rules.proofs.gf8.product.Tie as tie
 
 abbrev Inv-loop : tie.InvT-loop
-Inv-loop p a b sum₀ x₀ y₀ left₀ sum x y left = sum ⊕ mulDigits p left x y ≡ mul8 p a b
+Inv-loop p a b sum₀ x₀ y₀ left₀ sum x y left = sum ⊕ mulDigits (timesX 8 p) left x y ≡ mul8 p a b
 
 abbrev μ-loop : tie.MeasureT-loop
 μ-loop p a b sum₀ x₀ y₀ left₀ sum x y left = left
@@ -19,12 +20,12 @@ loop-again : tie.Need-loop-again Inv-loop μ-loop
 loop-again c =
     let l = c .before .before .before in
     rw (c .times-x .ensures, c .before .if-one .ensures)
-    (digit-taken (l .before .args .p) (l .loop .sum) (l .loop .x) (l .loop .y) (l .loop .left) (c .before .before .loop-test .taken) (l .loop .inv))
+    (digit-taken (timesX 8 (l .before .args .p)) (l .loop .sum) (l .loop .x) (l .loop .y) (l .loop .left) (c .before .before .loop-test .taken) (l .loop .inv))
 
 returns : tie.Need-returns Inv-loop μ-loop
 returns c =
     let l = c .before in
-    digits-done (l .before .args .p) (l .loop .sum) (l .loop .x) (l .loop .y) (l .loop .left) (c .loop-test .left) (l .loop .inv)
+    digits-done (timesX 8 (l .before .args .p)) (l .loop .sum) (l .loop .x) (l .loop .y) (l .loop .left) (c .loop-test .left) (l .loop .inv)
 
 pub product-spec : {M : Type 1} → statement M
 product-spec =

@@ -1,0 +1,2 @@
+pub mod Gf64
+pub mod Cases
