@@ -1,7 +1,8 @@
 /* Measures the card against the textbook ciphers, and against other libraries where they are
    built in, in MB (10^6 bytes) a second of CPU time. Both sides must write the same bytes.
-   Starts of loaded lines are measured against opens, in microseconds. Last come two threads
-   against one; if they have less than 1.8 times its speed, the program ends with 1. */
+   Starts of loaded lines are measured against opens, in microseconds, and sealed records against
+   textbook code. Last come two threads against one; if they have less than 1.8 times its speed, the
+   program ends with 1. */
 #define _POSIX_C_SOURCE 199309L
 
 #include "side.h"
@@ -205,6 +206,9 @@ int main(void)
     pick_up_heading();
     for (int i = 0; i < CIPHERS; i++)
         pick_up(&CIPHER[i]);
+    sealing_heading();
+    for (int i = 0; i < CIPHERS; i++)
+        sealing(&CIPHER[i]);
     ratios("bulk", bulk);
     ratios("frames", frames);
     ratios("eight lines", trunk);

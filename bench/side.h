@@ -44,6 +44,11 @@ void crypt_on(uint32_t *card, int line, const uint8_t *in, uint8_t *out, size_t 
 void pick_up_heading(void);
 void pick_up(const struct cipher *cipher);
 
+/* Measures sealed records of a cipher against the textbook code, and prints four rows; the heading
+   comes before the first of them. */
+void sealing_heading(void);
+void sealing(const struct cipher *cipher);
+
 /* Measures two threads with a card each against one, and prints a row for each cipher. Fails if
    two have less than 1.8 times the speed of one; says so if there is only one core. */
 void two_threads(void);
