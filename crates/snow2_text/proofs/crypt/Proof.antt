@@ -24,7 +24,7 @@ begun-requires c κs =
     let h = c .before .before .before .before in
     let k = start h in
     let e = h .least .ensures in
-    (search needs, ((k .pre .0, omega (arith, k .pre .0, e)), (omega (arith, e), omega (arith, e, k .pre .1))))
+    (search needs, ((omega (arith, k .pre .0), omega (arith, k .pre .0, e)), (omega (arith, e), omega (arith, e, k .pre .1))))
 
 returns : tie.Need-returns
 unfolding gen
