@@ -1,5 +1,7 @@
 // Blocks of 64 bits: read from a string of bytes, taken apart into words and bytes, and put to a buffer.
 // The caller must ensure only what a `requires` names: a block lies within the string or the buffer.
+#![tactic(auto)]
+
 ghost use Rattle.std.specs.Prelude.{◌≡◌, ◌++◌, ◌+◌, ◌≤◌, length, drop};
 ghost use Rattle.blocks.specs.Blocks.{block, left as left_of, right as right_of, block_at, spell};
 

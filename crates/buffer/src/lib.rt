@@ -1,5 +1,7 @@
 // Bytes or words put to the start of a borrowed buffer; what is behind them stays.
 // The caller must ensure that the buffer has room for them.
+#![tactic(auto)]
+
 ghost use Rattle.std.specs.Prelude.{◌≡◌, ◌++◌, ◌≤◌, length, drop};
 
 // The bytes of s go to the start of out.

@@ -1,5 +1,7 @@
 // The card by value (document 01, "The card"): a card is its words, and a call returns the card after it beside its outcome.
 // Nothing is asked of the caller: any card, command, key tray, data and buffer get an answer.
+#![tactic(auto)]
+
 ghost use Rattle.std.specs.Prelude.{◌≡◌};
 ghost use Rattle.card_outcome.specs.Leaves.{call_of};
 ghost use Rattle.card.specs.Ran.{fresh as Ran·fresh, CallPromise};
@@ -7,13 +9,13 @@ ghost use Rattle.card.specs.Ran.{fresh as Ran·fresh, CallPromise};
 use card_outcome::Outcome;
 use card_sizes::CARD;
 
-#[derive(Drop)]
+#[derive(Clone, Copy)]
 pub struct Card {
     pub words: [u32; CARD],
 }
 
 // What a call gives: the card after it, and its outcome.
-#[derive(Drop)]
+#[derive(Clone, Copy)]
 pub struct Answer {
     pub card: Card,
     pub outcome: Outcome,

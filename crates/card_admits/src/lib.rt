@@ -1,5 +1,7 @@
 // Bytes and words that are all zero, which number 7 asks, the states that each cipher admits, which 8 and 255 ask, and what a loaded line may keep.
 // The caller must ensure that a state has its words.
+#![tactic(auto)]
+
 ghost use Rattle.std.specs.Prelude.{◌≡◌, ◌≤◌, true, not, length, take, ◌==◌, slice_index};
 ghost use Rattle.card_sizes.specs.Sizes.{state_words};
 ghost use Rattle.words.specs.Tests.{both, pick};

@@ -1,5 +1,7 @@
 // A change of key on a line of a card, with a key of the tray: at once where the line stands at its position, else it waits (document 02, (v)).
 // The caller must ensure that the card is as a call leaves it, that the line is one of its lines, and that the command is whole.
+#![tactic(auto)]
+
 ghost use Rattle.std.specs.Prelude.{◌≡◌, false, List, ℕ, ◌+◌, ◌<◌, ◌≤◌, length};
 ghost use Rattle.card_sizes.specs.Sizes.{line_count, key_length, iv_length, change_length, state_words};
 ghost use Rattle.command.specs.Decode.{number_of};

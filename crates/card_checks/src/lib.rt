@@ -1,5 +1,7 @@
 // What numbers 8 and 255 ask: a state that is well formed, and a card whose lines and parks are as a call leaves them.
 // The caller must ensure that a state, a line and a card have their words.
+#![tactic(auto)]
+
 ghost use Rattle.std.specs.Prelude.{◌≡◌, true, ◌+◌, ◌^◌, ◌<◌, leb, length, get_or};
 ghost use Rattle.words.specs.Tests.{both};
 ghost use Rattle.card_sizes.specs.Sizes.{state_words, due_at, line_size, card_size, limit};

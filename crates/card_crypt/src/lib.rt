@@ -1,5 +1,7 @@
 // A crypt on a line of a card, on the card's borrowed words (document 01, "The card"), past a change that waits (document 02, (v)).
 // The caller must ensure that the card is as a call leaves it, and that the line is one of its lines.
+#![tactic(auto)]
+
 ghost use Rattle.std.specs.Prelude.{◌≡◌, List, ℕ, ◌<◌, length};
 ghost use Rattle.card_sizes.specs.Sizes.{line_size, line_count};
 ghost use Rattle.command.specs.declared.Command.TheVariants.{Crypt};

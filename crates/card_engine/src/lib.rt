@@ -1,5 +1,7 @@
 // A call on a card's borrowed words (document 01, "The card"): a damaged card is told, the command is read, and what it says is decided and performed.
 // The caller must ensure that the card has its words.
+#![tactic(auto)]
+
 ghost use Rattle.std.specs.Prelude.{◌≡◌, length};
 ghost use Rattle.card_sizes.specs.Sizes.{card_size};
 ghost use Rattle.card_outcome.specs.Leaves.{call_of, CallLeaves};

@@ -1,6 +1,8 @@
 // The fields of an image, read from its bytes: the cipher, n, the line that parked it, the park's number and the words of the state
 // (document 01, "The card", and document 02, (iii) and (x)).
 // The caller must ensure that the image has its length.
+#![tactic(auto)]
+
 ghost use Rattle.std.specs.Prelude.{◌≡◌, ◌≤◌, length};
 ghost use Rattle.card_sizes.specs.Sizes.{image_length};
 ghost use Rattle.machine.specs.Machine.{image_line, image_from, image_number};

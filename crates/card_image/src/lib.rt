@@ -1,6 +1,8 @@
 // A line's image, written to the start of a buffer from the line's words (document 01, "The card"): the cipher's byte, n in eight bytes,
 // the line that parks in one, the park's number in four, and the words of the state with the zeros after it.
 // The caller must ensure that the buffer has an image's length, that the words are a line's, and that the line is one of a card's.
+#![tactic(auto)]
+
 ghost use Rattle.std.specs.Prelude.{◌≡◌, ◌++◌, ◌<◌, ◌≤◌, length, drop};
 ghost use Rattle.card_sizes.specs.Sizes.{line_count, image_length};
 ghost use Rattle.machine.specs.Machine.{image_of};

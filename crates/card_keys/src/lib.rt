@@ -1,5 +1,7 @@
 // The key of a command: which part of tray or command it is, what numbers 7 and 16 say of it and of the IV, and the key that is handed out.
 // The caller must ensure that the part is there, and that a key has its bytes. An IV may have any length: a load has none.
+#![tactic(auto)]
+
 ghost use Rattle.std.specs.Prelude.{◌≡◌, ◌+◌, ◌≤◌, length, drop};
 ghost use Rattle.words.specs.Tests.{pick};
 ghost use Rattle.card_sizes.specs.Sizes.{key_length};

@@ -1,5 +1,7 @@
 // What the words of a card are: the fields of a line read from them, and a line or a change that waits put among them.
 // The caller must ensure that a card has its words, and that a line is one of its lines.
+#![tactic(auto)]
+
 ghost use Rattle.std.specs.Prelude.{◌≡◌, ◌<◌, length};
 ghost use Rattle.card_sizes.specs.Sizes.{state_words, line_count, card_size};
 ghost use Rattle.machine.specs.Machine.{plain_line, idle_line};

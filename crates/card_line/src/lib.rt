@@ -1,5 +1,7 @@
 // What the words of a line are: its fields read from them, and the words of an open or a loaded line, of a change that waits and of an idle line.
 // The caller must ensure that a line has its words.
+#![tactic(auto)]
+
 ghost use Rattle.std.specs.Prelude.{◌≡◌, [], ◌∷◌, ◌++◌, ◌+◌, ◌/◌, ◌%◌, ◌^◌, ◌<◌, ◌≤◌, min, length, get_or, drop};
 ghost use Rattle.card_sizes.specs.Sizes.{state_words, head_words, due_at, line_size};
 ghost use Rattle.machine.specs.Machine.{plain_line, idle_line};

@@ -1,6 +1,8 @@
 // A load of a line of a card with a key of the tray, and the start of a loaded line with an IV (document 02, (vii)): Rabbit keeps a
 // state, the other ciphers the bytes of the key.
 // The caller must ensure that the card is as a call leaves it, that the line is one of its lines, and that the command is whole.
+#![tactic(auto)]
+
 ghost use Rattle.std.specs.Prelude.{◌≡◌, true, false, List, ℕ, ◌+◌, ◌<◌, ◌≤◌, length, take};
 ghost use Rattle.card_sizes.specs.Sizes.{line_count, state_words, key_length, iv_length, start_length};
 ghost use Rattle.ciphers.specs.States.{spelt};

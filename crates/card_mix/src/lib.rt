@@ -1,5 +1,7 @@
 // A conference on the buffer of its answer: in each member's place the clamped sum of the others' samples, worked out in place.
 // The caller must ensure that the buffer has the members' parts, one behind the other.
+#![tactic(auto)]
+
 ghost use Rattle.std.specs.Prelude.{◌≡◌, ◌++◌, ◌+◌, ◌-◌, ◌*◌, ◌<◌, ◌≤◌, min, length, drop};
 ghost use Rattle.card_mix.specs.Parts.{mixes_of};
 ghost use Rattle.card_mix.specs.Columns.{raised_at, clamped_sum, stored, total_at, shared_out, column_of, ColumnAsks};

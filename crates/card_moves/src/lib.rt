@@ -1,5 +1,7 @@
 // How far a crypt takes a line, by numbers alone: its position, the position of a change that waits, 0 for none, and the bytes of the crypt.
 // The caller need not ensure anything.
+#![tactic(auto)]
+
 ghost use Rattle.std.specs.Prelude.{◌≡◌, ltb};
 ghost use Rattle.card_sizes.specs.Sizes.{limit};
 ghost use Rattle.card_moves.specs.Moves.{comes_due, position_on};

@@ -1,5 +1,7 @@
 // The two opens of a line of a card: with a key of the tray, or with the command's own (document 01, "The card").
 // The caller must ensure that the card is as a call leaves it, that the line is one of its lines, and that the command is whole.
+#![tactic(auto)]
+
 ghost use Rattle.std.specs.Prelude.{◌≡◌, List, ℕ, ◌+◌, ◌<◌, ◌≤◌, length};
 ghost use Rattle.words.specs.Tests.{pick};
 ghost use Rattle.card_sizes.specs.Sizes.{line_count, key_length, iv_length, tray_length, own_length};

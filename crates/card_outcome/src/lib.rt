@@ -1,10 +1,12 @@
 // What a call gives beside the card and out: its code, and how many bytes it used of the command and of data, and wrote to out.
 // Nothing is asked of the caller.
+#![tactic(auto)]
+
 ghost use Rattle.std.specs.Prelude.{◌≡◌};
 ghost use Rattle.card_outcome.specs.Outcomes.{refusal, acceptance};
 
 // The code is 0 where the call is accepted.
-#[derive(Drop)]
+#[derive(Clone, Copy)]
 pub struct Outcome {
     pub code: u8,
     pub used_command: usize,

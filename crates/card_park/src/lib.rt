@@ -1,5 +1,7 @@
 // A park, a resume and a close of a line, on the card's borrowed words.
 // The caller must ensure that the card is as a call leaves it, that the line is one of its lines, and that the command is as long as its image asks.
+#![tactic(auto)]
+
 ghost use Rattle.std.specs.Prelude.{List, ℕ, ◌<◌, ◌≤◌, length};
 ghost use Rattle.card_sizes.specs.Sizes.{line_count, resume_length};
 ghost use Rattle.command.specs.declared.Command.TheVariants.{Park, Resume, Close};

@@ -1,5 +1,7 @@
 // The parks of a card, in the words behind its lines: for each line how many were made from it, and the number last parked from it.
 // The caller must ensure that a card has its words, and that a line is one of its lines.
+#![tactic(auto)]
+
 ghost use Rattle.std.specs.Prelude.{◌≡◌, ◌<◌, length};
 ghost use Rattle.card_sizes.specs.Sizes.{line_count, card_size};
 ghost use Rattle.machine.specs.Parks.{count_for, number_now, parked, holds, taken, parks_ok};

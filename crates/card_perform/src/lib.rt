@@ -1,5 +1,7 @@
 // What each command does to a card, on the card's borrowed words: the opens, crypt, park, resume, close, change, load and start.
 // The caller must ensure that the card is as a call leaves it, and that the command is read.
+#![tactic(auto)]
+
 ghost use Rattle.std.specs.Prelude.{◌≡◌};
 ghost use Rattle.command.specs.Decode.{decode_of};
 ghost use Rattle.command.specs.declared.Decoded.TheVariants.{Run};

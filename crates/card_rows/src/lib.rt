@@ -1,5 +1,7 @@
 // The numbers of a command that is refused by numbers alone: the first row that is given, or 0.
 // The caller need not ensure anything.
+#![tactic(auto)]
+
 ghost use Rattle.std.specs.Prelude.{◌≡◌};
 ghost use Rattle.command.specs.Rows.{code_of};
 ghost use Rattle.card_rows.specs.Rows.{crypt_rows, park_rows, change_rows, tray_rows};

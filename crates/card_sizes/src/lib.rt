@@ -2,6 +2,8 @@
 // begin; each follows from those above it.
 
 // The words of a state.
+#![tactic(auto)]
+
 pub const STATE: usize = 38;
 
 // The words before a line's state: its mode, its cipher and its position in two.

@@ -1,5 +1,7 @@
 // Words as bytes, put to the start of a borrowed buffer, where what is behind them stays; and the bytes of a key as words.
 // The caller must ensure that the buffer has room for them, and that a key is whole words, at most eight.
+#![tactic(auto)]
+
 ghost use Rattle.std.specs.Prelude.{◌≡◌, ◌++◌, ◌*◌, ◌%◌, ◌≤◌, length, drop};
 ghost use Rattle.words.specs.Strings.{bytes_of};
 ghost use Rattle.card_sizes.specs.Sizes.{key_length};

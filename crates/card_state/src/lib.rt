@@ -1,5 +1,7 @@
 // A state as a line holds it: its words copied out of borrowed ones, and the form that ZUC and SNOW 2.0 share, a register of sixteen words with two behind it.
 // The caller must ensure that as many words are borrowed as a state has.
+#![tactic(auto)]
+
 ghost use Rattle.std.specs.Prelude.{◌≡◌, [], ◌∷◌, ◌++◌, length, take, drop};
 ghost use Rattle.card_sizes.specs.Sizes.{state_words};
 

@@ -1,6 +1,8 @@
 // The program `cardrun` (document 01): runs the commands of cmd.bin with the keys of tray.bin and the bytes of data.bin, writes all
 // written bytes to out.bin, appends the records of accepted crypts to use.bin and prints the table of calls. An absent file counts as
 // empty. Where a file cannot be read, or out.bin or use.bin cannot be written, it says so on standard error and prints no table.
+#![tactic(auto)]
+
 use libc::STDOUT_FILENO;
 use session::{READ, RECORDS, TABLE};
 

@@ -1,5 +1,7 @@
 // Document 01's table of ciphers, by number, with states as thirty-eight words: specs/ has the table, proofs/ what holds of each
 // cipher, and the code here is the columns that the card reads.
+#![tactic(auto)]
+
 ghost use Rattle.std.specs.Prelude.{◌≡◌};
 ghost use Rattle.command.specs.Decode.{number_of};
 ghost use Rattle.ciphers.specs.Table.{cipher_at};
@@ -8,7 +10,7 @@ ghost use Rattle.ciphers.specs.Columns.{columns_by, columns_of};
 use command::Cipher;
 
 // What is read of a cipher's row: its number and, in bytes, its key, its IV and its unit.
-#[derive(Drop)]
+#[derive(Clone, Copy)]
 pub struct Columns {
     pub number: u8,
     pub key: usize,

@@ -1,11 +1,13 @@
 // Commands and ciphers as enums, the lengths of the commands by their kinds, and the number of a command that is not read.
 // The caller need not ensure anything: any byte is read.
+#![tactic(auto)]
+
 ghost use Rattle.std.specs.Prelude.{◌≡◌};
 ghost use Rattle.command.specs.Decode.{read_of, length_of, refusal_of};
 
 use card_sizes::{CHANGE, CLOSE, CRYPT, LOAD, OWN, PARK, RESUME, START, TRAY};
 
-#[derive(Drop)]
+#[derive(Clone, Copy)]
 pub enum Cipher {
     Zuc,
     Rabbit,
@@ -15,14 +17,14 @@ pub enum Cipher {
     Mugi,
 }
 
-#[derive(Drop)]
+#[derive(Clone, Copy)]
 pub enum CipherRead {
     Is(Cipher),
     Unknown,
 }
 
 // A command with its operands. Key and IV of an open, the IV of a change or a start, and the image of a resume stay in the command's bytes.
-#[derive(Drop)]
+#[derive(Clone, Copy)]
 pub enum Command {
     Tray { line: u8, cipher: Cipher, key: u8 },
     Own { line: u8, cipher: Cipher },
@@ -35,7 +37,7 @@ pub enum Command {
     Start { line: u8 },
 }
 
-#[derive(Drop)]
+#[derive(Clone, Copy)]
 pub enum Decoded {
     Run(Command),
     Refused(u8),

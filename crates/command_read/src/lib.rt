@@ -1,5 +1,7 @@
 // A command read from its bytes, operand by operand, into the enum or refused with its number.
 // The caller of `decode` holds nothing: any bytes are read.
+#![tactic(auto)]
+
 ghost use Rattle.std.specs.Prelude.{◌≡◌, ◌≤◌, length};
 ghost use Rattle.card_sizes.specs.Sizes.{change_length};
 ghost use Rattle.command.specs.Decode.{length_of, open_of, crypt_of, change_of, command_of, decode_of};

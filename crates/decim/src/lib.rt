@@ -1,5 +1,7 @@
 // Decim v2 (ISO/IEC 18033-4, 8.4): a state by value, its step and its output, a byte of keystream each. Its start from key and IV is in `start`.
 // The caller passes the table that `decim_tables` makes by reference.
+#![tactic(auto)]
+
 pub mod start;
 
 ghost use Rattle.std.specs.Prelude.{◌≡◌};
@@ -12,7 +14,7 @@ use decim_buffer::Buffer;
 use decim_register::{f_word, feed_word, moved};
 
 // The register and the buffer.
-#[derive(Drop)]
+#[derive(Clone, Copy)]
 pub struct Decim {
     pub a: [u32; 6],
     pub buffer: Buffer,

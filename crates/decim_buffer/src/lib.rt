@@ -1,5 +1,7 @@
 // The compression block and the buffer of Decim v2 (ISO/IEC 18033-4, 8.4.10 and 8.4.11, and what 8.4.4 and 8.4.5 do with them).
 // The caller passes the table that `decim_tables` makes by reference.
+#![tactic(auto)]
+
 ghost use Rattle.std.specs.Prelude.{◌≡◌, true, false, ◌+◌, ◌*◌, ◌/◌, ◌%◌, ◌^◌, ◌<◌};
 ghost use Rattle.decim_tables.specs.Tables.{absg_list};
 ghost use Rattle.decim_register.specs.Register.{bit_in};
@@ -7,7 +9,7 @@ ghost use Rattle.decim_buffer.specs.Entries.{unpacked};
 ghost use Rattle.decim_buffer.specs.Buffers.{set_bit, buffered, fed_by, drawn, drawn_bits, refilled};
 
 // T, the buffer's bits, and how many of them are ready.
-#[derive(Drop)]
+#[derive(Clone, Copy)]
 pub struct Buffer {
     pub t: u32,
     pub b: u32,

@@ -1,11 +1,13 @@
 // The register of Decim v2 (ISO/IEC 18033-4, 8.4.7 to 8.4.9) in six words, the first bit on top: what it feeds and hands on in 32 turns at once, and its moves.
+#![tactic(auto)]
+
 ghost use Rattle.std.specs.Prelude.{◌≡◌, [], ◌∷◌, ◌+◌, ◌*◌, ◌/◌, ◌%◌, ◌^◌, ◌<◌};
 ghost use Rattle.words.specs.Lists.{iter, shifted};
 ghost use Rattle.decim_register.specs.Register.{moved_in, mixed, clocked};
 ghost use Rattle.decim_register.specs.Wide.{spliced, known_low, known_high, solution, fed_word, lf_word, f_word, added, counted};
 
 // Sums of bits modulo 4, one for each place of a word: their lowest digits, and the others.
-#[derive(Drop)]
+#[derive(Clone, Copy)]
 pub struct Sum {
     pub low: u32,
     pub high: u32,

@@ -1,5 +1,7 @@
 // The table of Decim v2: ABSG over four bits. An index into a constant builds the constant anew, so whoever runs many steps makes the table once and passes it by
 // reference.
+#![tactic(auto)]
+
 ghost use Rattle.std.specs.Prelude.{◌≡◌};
 ghost use Rattle.decim_tables.specs.Tables.{absg_list};
 

@@ -1,5 +1,7 @@
 // Decim v2 over a text: the table made once, and a unit to a turn. A unit is one byte, so none is ever begun or left half used.
 // The caller must ensure that the place in the unit is its byte and that the text fits the buffer.
+#![tactic(auto)]
+
 ghost use Rattle.std.specs.Prelude.{◌<◌, ◌≤◌, length};
 ghost use Rattle.keystream.specs.Stream.{TextCrypted};
 ghost use Rattle.decim.specs.Generator.{gen};

@@ -1,5 +1,7 @@
 // Units of Decim's keystream over a text, a byte each: none is ever cut, so there is no part of one.
 // The caller must ensure that the text and the buffer have the byte, and passes by reference the table that `decim_tables` makes.
+#![tactic(auto)]
+
 ghost use Rattle.std.specs.Prelude.{◌≡◌, ◌+◌, ◌≤◌, length};
 ghost use Rattle.keystream.specs.Stream.{UnitPut};
 ghost use Rattle.decim_tables.specs.Tables.{absg_list};

@@ -1,5 +1,7 @@
 // The keystreams and sample internal states of Decim v2 (annex C.5), computed by the cipher and printed as the annex prints them: the last byte and the last bit first. Of the
 // states from time 0 on, which the annex prints for each bit, those of whole bytes are printed.
+#![tactic(auto)]
+
 ghost use Rattle.std.specs.Prelude.{◌≡◌};
 ghost use Rattle.decim_tables.specs.Tables.{absg_list};
 

@@ -1,6 +1,8 @@
 // What a line does by its cipher: S(0) of key and IV, and a crypt from a byte of a unit on, each over the line's words.
 // The caller must ensure the length of the key, an IV's 16 bytes, a state that the cipher admits, a place within a unit, and a buffer as long as the text.
 
+#![tactic(auto)]
+
 ghost use Rattle.std.specs.Prelude.{◌≡◌, true, ◌<◌, ◌≤◌, length, take};
 ghost use Rattle.keystream.specs.Stream.{TextCrypted};
 ghost use Rattle.card_sizes.specs.Sizes.{iv_length, state_words};

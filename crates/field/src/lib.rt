@@ -1,5 +1,7 @@
 // Products in GF(2^32) and the function T of AES's parts, by borrowed tables.
 // The caller must ensure what a `requires` names: the borrowed table is the one that this crate makes.
+#![tactic(auto)]
+
 pub mod tables;
 
 ghost use Rattle.std.specs.Prelude.{◌≡◌};

@@ -2,6 +2,8 @@
 // error, behind a label.
 
 // Says on standard error what failed. Answers false.
+#![tactic(auto)]
+
 fn failed(label: &[u8]) -> bool {
     os::fail(label);
     false

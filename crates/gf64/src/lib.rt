@@ -1,4 +1,6 @@
 // GF(2^64) of ISO/IEC 18033-4, 6.2.3: products of blocks, and inverses. A sum of two blocks is their exclusive or. Nothing is asked of the caller.
+#![tactic(auto)]
+
 ghost use Rattle.std.specs.Prelude.{◌≡◌};
 ghost use Rattle.field.specs.Gf2.{if_one};
 ghost use Rattle.gf64.specs.Gf64.{by_x, mul as mul_of, reciprocal as inverse_of};

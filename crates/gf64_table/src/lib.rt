@@ -1,5 +1,7 @@
 // Many products with one block of GF(2^64), from a table of its multiples: two digits of the other factor at a time. Nothing is asked of the caller; what
 // `times` returns is a product where the table is one that `multiples` made.
+#![tactic(auto)]
+
 ghost use Rattle.std.specs.Prelude.{◌≡◌};
 ghost use Rattle.gf64_table.specs.Multiples.{multiples_of, TimesBy};
 

@@ -1,4 +1,6 @@
 // Hexadecimal text: numbers in lower-case digits.
+#![tactic(auto)]
+
 ghost use Rattle.std.specs.Prelude.{◌≡◌, ◌<◌, length};
 ghost use Rattle.hex_text.specs.Hex.{digit_of, hexadecimal};
 

@@ -1,5 +1,7 @@
 // KCipher-2 (ISO/IEC 18033-4, 8.5): a state by value, its steps in both modes and its output. Its start from key and IV is in `start`.
 // The caller passes the tables that `kcipher2_tables` and `field::tables::column` make by reference.
+#![tactic(auto)]
+
 pub mod start;
 
 ghost use Rattle.std.specs.Prelude.{◌≡◌, ◌<◌};
@@ -10,7 +12,7 @@ ghost use Rattle.kcipher2.specs.Cipher.{by_digit as pick_of, nlf as nlf_of, one_
 ghost use Rattle.kcipher2.specs.Cipher.{pushed as moved_of, sum_right as right_of, sum_left as left_of, clocked, next, next_init};
 
 // A0..A4, B0..B10, R1, L1, R2 and L2.
-#[derive(Drop)]
+#[derive(Clone, Copy)]
 pub struct Kcipher2 {
     pub a: [u32; 5],
     pub b: [u32; 11],

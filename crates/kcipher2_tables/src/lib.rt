@@ -1,4 +1,6 @@
 // The tables of KCipher-2. An index into a constant builds the constant anew, so whoever runs many steps makes a table once and passes it by reference.
+#![tactic(auto)]
+
 ghost use Rattle.std.specs.Prelude.{◌≡◌};
 ghost use Rattle.kcipher2_tables.specs.Tables.{alpha0_list, alpha1_list, alpha2_list, alpha3_list};
 

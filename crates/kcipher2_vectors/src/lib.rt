@@ -1,5 +1,7 @@
 // The keystreams and sample internal states of KCipher-2 (annex C.6), computed by the cipher and printed as the annex prints them:
 // registers from cell 0 up. Where the scan cuts a key, an IV or a keystream short, a line in brackets says so.
+#![tactic(auto)]
+
 ghost use Rattle.std.specs.Prelude.{◌≡◌};
 ghost use Rattle.field.specs.Tables.{column_list};
 ghost use Rattle.kcipher2_tables.specs.Tables.{Lent};

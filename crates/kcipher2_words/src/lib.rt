@@ -1,5 +1,7 @@
 // KCipher-2 over a line's words.
 // The caller must ensure the lengths of key and IV, a state that KCipher-2 admits, a place within a unit, and a buffer as long as the text.
+#![tactic(auto)]
+
 ghost use Rattle.std.specs.Prelude.{◌≡◌, true, [], ◌∷◌, ◌++◌, ◌<◌, ◌≤◌, length, drop};
 ghost use Rattle.keystream.specs.Stream.{TextCrypted};
 ghost use Rattle.ciphers.specs.States.{state_words, kcipher2_words, kcipher2_state};

@@ -1,5 +1,7 @@
 // MUGI (ISO/IEC 18033-4, 8.1): a state by value, its step and its output. Its start from key and IV is in `start`.
 // The caller passes the table that `mugi_tables` makes by reference.
+#![tactic(auto)]
+
 pub mod start;
 
 ghost use Rattle.std.specs.Prelude.{◌≡◌, ◌+◌, ◌*◌, ◌/◌, ◌%◌, ◌^◌};
@@ -11,7 +13,7 @@ ghost use Rattle.mugi.specs.Steps.{stirred, first as first_of, second as second_
 use blocks::{left, right};
 
 // a0..a2 and b0..b15.
-#[derive(Drop)]
+#[derive(Clone, Copy)]
 pub struct Mugi {
     pub a: [u64; 3],
     pub b: [u64; 16],

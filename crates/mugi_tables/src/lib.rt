@@ -1,4 +1,6 @@
 // The table of MUGI. An index into a constant builds the constant anew, so whoever runs many steps makes the table once and passes it by reference.
+#![tactic(auto)]
+
 ghost use Rattle.std.specs.Prelude.{◌≡◌};
 ghost use Rattle.mugi_tables.specs.Tables.{mixing_list};
 

@@ -1,5 +1,7 @@
 // Units of MUGI's keystream over a text: one that is whole and a part of one.
 // The caller must ensure that the text and the buffer have the bytes, and passes by reference the table that `mugi_tables` makes.
+#![tactic(auto)]
+
 ghost use Rattle.std.specs.Prelude.{◌≡◌, ◌+◌, ◌≤◌, length};
 ghost use Rattle.keystream.specs.Stream.{UnitPut, PartCrypted};
 ghost use Rattle.mugi_tables.specs.Tables.{mixing_list};

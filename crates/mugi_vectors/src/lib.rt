@@ -1,5 +1,7 @@
 // The keystreams and sample internal states of MUGI (annex C.1), computed by the cipher and printed as the annex prints them:
 // registers from block 0 up, the states from the key's loading on. Where the scan is damaged, a line in brackets says so.
+#![tactic(auto)]
+
 ghost use Rattle.std.specs.Prelude.{◌≡◌, length};
 ghost use Rattle.mugi_tables.specs.Tables.{mixing_list};
 

@@ -1,5 +1,7 @@
 // MUGI over a line's words.
 // The caller must ensure the lengths of key and IV, a place within a unit, and a buffer as long as the text.
+#![tactic(auto)]
+
 ghost use Rattle.std.specs.Prelude.{◌≡◌, true, ◌+◌, ◌<◌, ◌≤◌, length};
 ghost use Rattle.words.specs.Lists.{tab};
 ghost use Rattle.keystream.specs.Stream.{TextCrypted};

@@ -1,5 +1,7 @@
 // MULTI-S01 (ISO/IEC 18033-4, 6.2.3) on the blocks of a buffer: the W_i chained to what is sealed, what is sealed taken apart again, and the
 // test of padding and redundancy. The caller must ensure only what a `requires` names: the blocks lie within the buffers.
+#![tactic(auto)]
+
 ghost use Rattle.std.specs.Prelude.{◌≡◌, ◌++◌, ◌+◌, ◌*◌, ◌≤◌, eqb, length, drop};
 ghost use Rattle.words.specs.Lists.{tab};
 ghost use Rattle.words.specs.Tests.{both};

@@ -1,5 +1,7 @@
 // The card for programs in C and Rust: a card is an array of words that the caller keeps, all zero for a fresh card, and `pipeshear_call` takes a call.
 // Nothing is asked of the caller: any card, buffers and counts get an answer.
+#![tactic(auto)]
+
 pub mod seals;
 
 ghost use Rattle.std.specs.Prelude.{◌≡◌, [], ◌∷◌, length};

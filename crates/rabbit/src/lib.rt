@@ -1,4 +1,6 @@
 // Rabbit (ISO/IEC 18033-4, 8.3; Amd 1:2009, 7.3): a state by value, its step and its output. Its start from key and IV is in `start`.
+#![tactic(auto)]
+
 pub mod start;
 
 ghost use Rattle.std.specs.Prelude.{◌≡◌, ◌+◌, ◌^◌, ◌<◌};
@@ -6,7 +8,7 @@ ghost use Rattle.words.specs.Word.{◌+₃₂◌, rotl};
 ghost use Rattle.rabbit.specs.Cipher.{g as g_of, counted, gs as gs_of, mixed, part as part_of, next, strm};
 
 // X0..X7, C0..C7 and the carry.
-#[derive(Drop)]
+#[derive(Clone, Copy)]
 pub struct Rabbit {
     pub x: [u32; 8],
     pub c: [u32; 8],
@@ -14,7 +16,7 @@ pub struct Rabbit {
 }
 
 // The counters after a step, and the carry out of the last.
-#[derive(Drop)]
+#[derive(Clone, Copy)]
 pub struct Counted {
     pub c: [u32; 8],
     pub b: u32,

@@ -1,4 +1,6 @@
 // The constants of Rabbit.
+#![tactic(auto)]
+
 ghost use Rattle.std.specs.Prelude.{◌≡◌};
 ghost use Rattle.rabbit_tables.specs.Tables.{a_list};
 

@@ -1,5 +1,7 @@
 // Rabbit over a text: the rest of a begun unit, whole units two to a turn, and the tail.
 // The caller must ensure that the place in the unit is one of its sixteen bytes and that the text fits the buffer.
+#![tactic(auto)]
+
 ghost use Rattle.std.specs.Prelude.{◌+◌, ◌≤◌, ◌<◌, length};
 ghost use Rattle.keystream.specs.Stream.{TextCrypted, PartCrypted};
 ghost use Rattle.rabbit.specs.Generator.{gen};

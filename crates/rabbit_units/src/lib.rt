@@ -1,5 +1,7 @@
 // Units of Rabbit's keystream over a text: one that is whole and a part of one.
 // The caller must ensure that the text and the buffer have the bytes.
+#![tactic(auto)]
+
 ghost use Rattle.std.specs.Prelude.{◌≡◌, ◌+◌, ◌≤◌, length};
 ghost use Rattle.keystream.specs.Stream.{UnitPut, PartCrypted};
 ghost use Rattle.rabbit.specs.Cipher.{unit as unit_of};

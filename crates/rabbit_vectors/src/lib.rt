@@ -1,5 +1,7 @@
 // The keystreams and sample internal states of Rabbit (annex C.4), computed by the cipher and printed as the annex prints them:
 // registers from cell 0 up. Where the scan cuts a key, an IV or a keystream short, a line in brackets says so.
+#![tactic(auto)]
+
 ghost use Rattle.std.specs.Prelude.{◌<◌};
 
 use rabbit::Rabbit;

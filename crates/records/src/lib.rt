@@ -1,5 +1,7 @@
 // The record of an accepted crypt, ten bytes: its line, its cipher, and in eight bytes, most significant first, how many bytes it enciphered.
 // The caller must ensure that the record lies within the buffer.
+#![tactic(auto)]
+
 ghost use Rattle.std.specs.Prelude.{◌≡◌, ◌+◌, ◌≤◌, length};
 ghost use Rattle.text.specs.Text.{Behind};
 ghost use Rattle.records.specs.Records.{record_of, use_at};

@@ -1,6 +1,8 @@
 // The month's traffic sheet of the records of use.bin, which stand in one borrowed buffer, as text: bytes for each line, for each cipher
 // and in all, or the number of a refusal.
 // Nothing is asked of the caller of `report`: any bytes get a sheet or a number.
+#![tactic(auto)]
+
 ghost use Rattle.std.specs.Prelude.{◌+◌, ◌*◌, ◌≤◌, ◌<◌, ◌^◌, length};
 ghost use Rattle.text.specs.Text.{Behind};
 ghost use Rattle.records.specs.Records.{uses};
@@ -18,7 +20,7 @@ pub const CIPHERS: usize = 6;
 pub const SHEET: usize = 21 * (LINES + CIPHERS + 1);
 
 // The number of the refusal, or 0, and the bytes of the text.
-#[derive(Drop)]
+#[derive(Clone, Copy)]
 pub struct Reported {
     pub code: u8,
     pub written: usize,

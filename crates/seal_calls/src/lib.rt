@@ -1,5 +1,7 @@
 // The pair that seals and opens records on slices of any length, which are tested first; the bytes written go to an array of one.
 // Nothing is asked of the caller: any cipher, lengths and buffers get an answer.
+#![tactic(auto)]
+
 ghost use Rattle.std.specs.Prelude.{◌≡◌, length};
 ghost use Rattle.card_sizes.specs.Sizes.{key_length, iv_length};
 ghost use Rattle.seal_calls.specs.Seals.{arrays_ok, redundancy_length, SealPromise, UnsealPromise};

@@ -1,5 +1,7 @@
 // Sealed call records: MULTI-S01 (ISO/IEC 18033-4, 6.2.3) over any of the ciphers, a message sealed and opened as a whole.
 // `seal` and `open` ask nothing of the caller.
+#![tactic(auto)]
+
 ghost use Rattle.std.specs.Prelude.{◌≡◌, length};
 ghost use Rattle.command.specs.Decode.{number_of};
 ghost use Rattle.card_sizes.specs.Sizes.{key_length, iv_length};

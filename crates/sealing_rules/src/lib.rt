@@ -1,5 +1,7 @@
 // What the pair that seals and opens call records looks at before the keystream, what it answers, and how an opening ends.
 // The caller must ensure only that a key has its bytes, and out room for a message.
+#![tactic(auto)]
+
 ghost use Rattle.std.specs.Prelude.{◌≡◌, true, not, ◌-◌, ◌≤◌, length};
 ghost use Rattle.card_sizes.specs.Sizes.{key_length};
 ghost use Rattle.command.specs.Decode.{number_of};
@@ -18,14 +20,14 @@ pub const ADDED: usize = 16;
 pub const REDUNDANCY: usize = 8;
 
 // What is answered: 0 or the number that refuses, and how many bytes were written.
-#[derive(Drop)]
+#[derive(Clone, Copy)]
 pub struct Sealed {
     pub code: u8,
     pub written: usize,
 }
 
 // What the checks say: the cipher, or the number that refuses.
-#[derive(Drop)]
+#[derive(Clone, Copy)]
 pub enum Admitted {
     Run(Cipher),
     Refused(u8),

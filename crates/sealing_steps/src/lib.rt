@@ -1,5 +1,7 @@
 // The steps of a sealing and of an opening along the keystream: S(0), the W_i of a message, and what is recovered of a sealed one.
 // The caller must ensure what a `requires` names: words that are a state of the cipher, and buffers with room.
+#![tactic(auto)]
+
 ghost use Rattle.std.specs.Prelude.{◌≡◌, List, ℕ, ◌+◌, ◌*◌, ◌<◌, ◌≤◌, length};
 ghost use Rattle.ciphers.specs.Table.{cipher_at};
 ghost use Rattle.ciphers.specs.Fit.{Fit};
@@ -18,7 +20,7 @@ use multi_s01::unchain;
 use sealing_stream::{crypt_on, next_block};
 
 // The last two W_i of a sealing: of the padding and of the redundancy.
-#[derive(Drop)]
+#[derive(Clone, Copy)]
 struct Tail {
     padding: u64,
     redundancy: u64,

@@ -1,5 +1,7 @@
 // The keystream of any cipher in blocks of 64 bits, one after the other, with the cipher's state in words, and the first block that is not 0.
 // The caller must ensure words that are a state of the cipher, and a buffer as long as the text.
+#![tactic(auto)]
+
 ghost use Rattle.std.specs.Prelude.{◌*◌, ◌≤◌, length};
 ghost use Rattle.command.specs.Decode.{number_of};
 ghost use Rattle.ciphers.specs.Table.{cipher_at};
@@ -14,7 +16,7 @@ use command::Cipher;
 pub const TRIES: usize = 4096;
 
 // The first block that is not 0, and its index, which is TRIES where there is none.
-#[derive(Drop)]
+#[derive(Clone, Copy)]
 pub struct Found {
     pub t: usize,
     pub a: u64,

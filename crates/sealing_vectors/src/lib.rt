@@ -1,5 +1,7 @@
 // Worked examples of sealed records, for the far end to compare, since annex C has none: what is sealed and with what, the place t of the multiplier
 // in the keystream and the multiplier Z_t, and the sealed text.
+#![tactic(auto)]
+
 use blocks::block_at;
 use command::CipherRead;
 use vectors_text::{block, end, heading, line, listing, put, unhex};

@@ -1,5 +1,7 @@
 // A run of the program: commands are run until the end or the first refusal (document 01, `cardrun`), the written bytes joined in one
 // buffer, the table of calls written to another, and the records of the crypts to a third.
+#![tactic(auto)]
+
 ghost use Rattle.std.specs.Prelude.{◌≡◌, take};
 ghost use Rattle.session.specs.Session.{read_length};
 ghost use Rattle.session.specs.Progress.{start_of, Sizes, Finished, RunPromise};
@@ -19,7 +21,7 @@ pub const TABLE: usize = 262400;
 pub const RECORDS: usize = 81920;
 
 // What a run leaves: the bytes written to out, to the table and to the records.
-#[derive(Drop)]
+#[derive(Clone, Copy)]
 pub struct Ended {
     pub written: usize,
     pub printed: usize,

@@ -1,6 +1,8 @@
 // One call of a run of the program: on what is left of the commands, of the data and of out, its line behind those before it in the table,
 // and its record behind those before it in the records.
 // The caller must ensure that the buffers hold what was used and written, with room for a line and a record.
+#![tactic(auto)]
+
 ghost use Rattle.session_call.specs.Turn.{Ready, Turned};
 
 use card::Card;
@@ -9,7 +11,7 @@ use session_table::put_row;
 
 // How far the run has come: the card, the bytes used of commands and data, the bytes written to out, to the table and to the records, calls
 // and the last code.
-#[derive(Drop)]
+#[derive(Clone, Copy)]
 pub struct Progress {
     pub card: Card,
     pub command: usize,

@@ -1,5 +1,7 @@
 // The record that the program keeps of a call, behind those before it in a buffer.
 // The caller must ensure that the buffer has room for a record, and that an accepted command names a line of the card.
+#![tactic(auto)]
+
 ghost use Rattle.std.specs.Prelude.{◌+◌, ◌≤◌, length};
 ghost use Rattle.card_layout.specs.Words.{card_in};
 ghost use Rattle.text.specs.Text.{Behind};

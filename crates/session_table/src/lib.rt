@@ -1,5 +1,7 @@
 // The table that the program prints: the column names, a call's line and the last line, each behind what stands before it in a buffer; and
 // how many calls were accepted.
+#![tactic(auto)]
+
 ghost use Rattle.std.specs.Prelude.{◌≡◌, ◌+◌, ◌≤◌, length};
 ghost use Rattle.text.specs.Text.{Behind};
 ghost use Rattle.session_table.specs.Table.{columns, call_row, end_of, accepted_of};

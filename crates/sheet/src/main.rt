@@ -1,6 +1,8 @@
 // The program `sheet`: prints the month's traffic sheet of the records of use.bin, bytes for each line, for each cipher and in all, one
 // figure to a line; of records that it refuses the number only. An absent file counts as empty. Where use.bin cannot be read, it says so on
 // standard error and prints nothing.
+#![tactic(auto)]
+
 use libc::STDOUT_FILENO;
 use report::SHEET;
 

@@ -1,5 +1,7 @@
 // SNOW 2.0 (ISO/IEC 18033-4, 8.2): a state by value, its steps in both modes and its output. Its start from key and IV is in `start`.
 // The caller passes the tables that `snow2_tables` and `field::tables::column` make by reference.
+#![tactic(auto)]
+
 pub mod start;
 
 ghost use Rattle.std.specs.Prelude.{◌≡◌};
@@ -9,7 +11,7 @@ ghost use Rattle.snow2_tables.specs.Tables.{field as field_of, alpha_inv, alpha_
 ghost use Rattle.snow2.specs.Cipher.{f as fsm_of, fed, clocked, next, next_init, strm};
 
 // s0..s15, R1 and R2.
-#[derive(Drop)]
+#[derive(Clone, Copy)]
 pub struct Snow2 {
     pub s: [u32; 16],
     pub r1: u32,

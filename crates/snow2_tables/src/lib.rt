@@ -1,4 +1,6 @@
 // The tables of SNOW 2.0. An index into a constant builds the constant anew, so whoever runs many steps makes a table once and passes it by reference.
+#![tactic(auto)]
+
 ghost use Rattle.std.specs.Prelude.{◌≡◌};
 ghost use Rattle.snow2_tables.specs.Tables.{alpha_list, inverse_list};
 

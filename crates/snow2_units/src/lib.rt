@@ -1,5 +1,7 @@
 // Units of the keystream of SNOW 2.0 over a text: one that is whole, eight to a turn, and a part of one.
 // The caller must ensure that the text and the buffer have the bytes, and passes by reference the tables that `snow2_tables` and `field::tables::column` make.
+#![tactic(auto)]
+
 ghost use Rattle.std.specs.Prelude.{◌+◌, ◌≤◌, length};
 ghost use Rattle.keystream.specs.Stream.{UnitPut, PartCrypted};
 ghost use Rattle.snow2_tables.specs.Tables.{Lent};

@@ -1,5 +1,7 @@
 // The keystreams and sample internal states of SNOW 2.0 (annexes C.2 and C.3), computed by the cipher and printed as the annex prints them:
 // registers from the top down. Where the scan cuts a key, an IV or a keystream short, a line in brackets says so.
+#![tactic(auto)]
+
 ghost use Rattle.snow2_tables.specs.Tables.{Lent};
 
 use snow2::Snow2;

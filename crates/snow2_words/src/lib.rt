@@ -1,5 +1,7 @@
 // SNOW 2.0 over a line's words, with either length of key.
 // The caller must ensure the lengths of key and IV, a state that SNOW 2.0 admits, a place within a unit, and a buffer as long as the text.
+#![tactic(auto)]
+
 ghost use Rattle.std.specs.Prelude.{◌≡◌, true, [], ◌∷◌, ◌++◌, ◌<◌, ◌≤◌, length, drop};
 ghost use Rattle.keystream.specs.Stream.{TextCrypted};
 ghost use Rattle.ciphers.specs.States.{state_words, snow2_words, snow2_state};

@@ -1,5 +1,7 @@
 // The constant tables of the ciphers, worked out from their rules: 256 entries over a polynomial p of GF(2^8), for every p.
 // Where a second `ensures` gives the length, passing the array as a slice needs it.
+#![tactic(auto)]
+
 mod gf8;
 
 ghost use Rattle.std.specs.Prelude.{◌≡◌, length};

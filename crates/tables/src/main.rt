@@ -1,5 +1,7 @@
 // The program `tables`: prints the byte substitution of 8.1, the two tables of SNOW 2.0 and the four of KCipher-2, worked out from their rules.
 // Where standard output takes no bytes, it says so on standard error.
+#![tactic(auto)]
+
 use libc::STDOUT_FILENO;
 use tables_text::SIZE;
 

@@ -1,4 +1,6 @@
 // The constant tables of the ciphers as text, each worked out from its field's polynomials.
+#![tactic(auto)]
+
 ghost use Rattle.std.specs.Prelude.{◌≡◌, ◌+◌, ◌*◌, ◌≤◌, length};
 ghost use Rattle.text.specs.Text.{Behind};
 ghost use Rattle.table_rules.specs.Rules.{products_of, substitution_of};

@@ -1,5 +1,7 @@
 // Text put to a borrowed buffer, piece behind piece: bytes, and figures in decimal.
 // The caller must ensure that the buffer has room for the piece.
+#![tactic(auto)]
+
 ghost use Rattle.std.specs.Prelude.{◌+◌, ◌≤◌, length};
 ghost use Rattle.text.specs.Text.{Behind, figure};
 

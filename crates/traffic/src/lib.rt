@@ -1,6 +1,8 @@
 // What the records of use.bin come to, which stand in one borrowed buffer: sums over the records of a line, of a cipher and over all, and
 // the number that a sheet of them is refused with.
 // The caller must ensure only what a `requires` names: a sum of some records needs a total below 2^64.
+#![tactic(auto)]
+
 ghost use Rattle.std.specs.Prelude.{◌≡◌, ◌+◌, ◌≤◌, ◌<◌, ◌^◌, length};
 ghost use Rattle.words.specs.Tests.{pick};
 ghost use Rattle.command.specs.Rows.{code_of};
@@ -13,7 +15,7 @@ use records::{RECORD, bytes_at};
 pub const MOST: usize = 40960;
 
 // The sum of all records, and whether it is 2^64 or more; then the sum is 0.
-#[derive(Drop)]
+#[derive(Clone, Copy)]
 pub struct Added {
     pub over: bool,
     pub sum: u64,

@@ -1,5 +1,7 @@
 // The keystreams and sample internal states of annex C of ISO/IEC 18033-4, computed by the ciphers and printed as the annex prints them, and sealed
 // records, which the annex has none of.
+#![tactic(auto)]
+
 fn main() {
     mugi_vectors::print();
     snow2_vectors::print128();

@@ -1,4 +1,6 @@
 // What the program prints: lines, hexadecimal words, blocks and bytes, and the time of a state.
+#![tactic(auto)]
+
 use libc::STDOUT_FILENO;
 
 pub fn put(s: &[u8]) {

@@ -1,5 +1,7 @@
 // Words of 32 bits: read from a string of bytes, taken apart into bytes, and moved through a register.
 // The caller must ensure only what a `requires` names: a word that is read lies within the string.
+#![tactic(auto)]
+
 ghost use Rattle.std.specs.Prelude.{◌≡◌, ◌+◌, ◌≤◌, ◌<◌, ◌^◌, length, get_or};
 ghost use Rattle.words.specs.Word.{word, rotl};
 ghost use Rattle.words.specs.Strings.{word_at, four_at, bytes_of, bytes_up};

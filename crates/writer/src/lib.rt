@@ -1,5 +1,7 @@
 // The unit writer: text XORed with keystream goes to the start of a buffer, a unit at a time or a part of one.
 // The caller must ensure that text and buffer are as long as what is written.
+#![tactic(auto)]
+
 ghost use Rattle.std.specs.Prelude.{◌≡◌, ◌++◌, min, ◌+◌, ◌≤◌, length, get_or};
 ghost use Rattle.words.specs.Strings.{bytes_of, bytes_up};
 ghost use Rattle.blocks.specs.Blocks.{spell};

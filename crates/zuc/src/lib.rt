@@ -1,5 +1,7 @@
 // ZUC (ISO/IEC 18033-4:2011/Amd 1:2020, 8.6): a state by value, its steps in both modes and its output. Its start from key and IV is in `start`.
 // The caller passes the tables that `zuc_tables` makes by reference.
+#![tactic(auto)]
+
 pub mod start;
 
 ghost use Rattle.std.specs.Prelude.{◌≡◌, ◌+◌, ◌-◌, ◌/◌, ◌%◌, ◌^◌, ◌<◌, ◌≤◌};
@@ -8,7 +10,7 @@ ghost use Rattle.zuc_tables.specs.Tables.{Lent};
 ghost use Rattle.zuc.specs.Cipher.{l1, l2, ss, cell_high, w as word_w, weighed, mended, next_r1, next_r2, clocked, next, next_init, strm};
 
 // A0..A15, R1 and R2.
-#[derive(Drop)]
+#[derive(Clone, Copy)]
 pub struct Zuc {
     pub a: [u32; 16],
     pub r1: u32,

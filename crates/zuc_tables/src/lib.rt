@@ -1,4 +1,6 @@
 // The tables of ZUC. An index into a constant builds the constant anew, so whoever runs many steps makes a table once and passes it by reference.
+#![tactic(auto)]
+
 ghost use Rattle.std.specs.Prelude.{◌≡◌};
 ghost use Rattle.zuc_tables.specs.Tables.{sub1 as sub1_list, sub2 as sub2_list, d as d_list};
 

@@ -1,5 +1,7 @@
 // Units of ZUC's keystream over a text: one that is whole, eight to a turn, and a part of one.
 // The caller must ensure that the text and the buffer have the bytes, and passes by reference the tables that `zuc_tables` makes.
+#![tactic(auto)]
+
 ghost use Rattle.std.specs.Prelude.{◌+◌, ◌≤◌, length};
 ghost use Rattle.keystream.specs.Stream.{UnitPut, PartCrypted};
 ghost use Rattle.zuc_tables.specs.Tables.{Lent};

@@ -1,5 +1,7 @@
 // The keystreams and sample internal states of ZUC (annex C.7), computed by the cipher and printed as the annex prints them:
 // registers from the top down. Where the scan cuts a key, an IV or a keystream short, a line in brackets says so.
+#![tactic(auto)]
+
 ghost use Rattle.zuc_tables.specs.Tables.{Lent};
 
 use vectors_text::{end, heading, inputs, line, named, register, remark, time, unhex, word};

@@ -1,5 +1,7 @@
 // ZUC over a line's words.
 // The caller must ensure the lengths of key and IV, a state that ZUC admits, a place within a unit, and a buffer as long as the text.
+#![tactic(auto)]
+
 ghost use Rattle.std.specs.Prelude.{◌≡◌, true, [], ◌∷◌, ◌++◌, ◌<◌, ◌≤◌, length, drop};
 ghost use Rattle.keystream.specs.Stream.{TextCrypted};
 ghost use Rattle.ciphers.specs.States.{state_words, zuc_words, zuc_state};
