@@ -24,7 +24,10 @@ use Rattle.card_load.proofs.Rows.{start-decided, loaded-cipher}
 use borrow.Author.Rules.{rules}
 use Rattle.card_load.proofs.run_start.Goals as goal
 
--- UNCONVERTED returns -> returns-then-mode-ne2
+pub returns-then-mode-ne2 : goal.returns-then-mode-ne2
+returns-then-mode-ne2 c =
+    λ y t o. (let it : (tray text out : List ℕ) {m c : ℕ} {r : Outcome} {ws' : List ℕ} → m ≡ ((line_on (card_in c.args.card.now) c.args.i)).mode → c ≡ ((line_on (card_in c.args.card.now) c.args.i)).cipher → EffectLeaves c.args.card.now text out (start_with c.args.i m c ((take iv_length (drop start_iv c.args.command.now)))) r ws' out → CommandLeaves c.args.card.now (Start c.args.i) (call_of c.args.command.now tray text out) r ws' out = λ tray text out {r. r} {ws' = ws'} e f h = subst (λ (x : Effect). EffectLeaves c.args.card.now text out x r ws' out) ((λ j. start_with c.args.i (e j) (f j) ((take iv_length (drop start_iv c.args.command.now)))) ∙ sym (start-decided c.args.card.now c.args.i c.args.command.now tray text out)) h in it) y t o c.mode_at-mode.ensures (λ j. ((line_on (card_in c.args.card.now) c.args.i)).cipher)
+    (given-true c.args.card.now t o _ 19 _ (ap not (ne_eqb _ 2 c.if-mode-ne2.true)) (given-refusal c.args.card.now t o 19 (λ z. omega arith) c.refused.ensures))
 
 pub returns-in_default : goal.returns-in_default
 returns-in_default c =
@@ -33,6 +36,8 @@ returns-in_default c =
 pub start_line-requires : goal.start_line-requires
 start_line-requires c =
     let n : length ((take iv_length (drop start_iv c.args.command.now))) ≡ iv_length = length-take-le iv_length (drop start_iv c.args.command.now) (omega (arith, length-drop start_iv c.args.command.now, c.requires.start_length_in_bounds)) in
-    (c.requires.sound, (((let it : ((line_on (card_in c.args.card.now) c.args.i)).mode ≡ 2 = sym c.mode_at-mode.ensures ∙ c.if-mode-ne2.false in it), (let it : ((line_on (card_in c.args.card.now) c.args.i)).cipher ≡ number_of c.in-Is.cipher = sym c.cipher_at-named.ensures ∙ (read_is _ (sym c.read_cipher.ensures ∙ c.in-Is.is)).0 in it)), n))
+    record { sound = c.requires.sound; i_value = ((let it : ((line_on (card_in c.args.card.now) c.args.i)).mode ≡ 2 = sym c.mode_at-mode.ensures ∙ c.if-mode-ne2.false in it), (let it : ((line_on (card_in c.args.card.now) c.args.i)).cipher ≡ number_of c.in-Is.cipher = sym c.cipher_at-named.ensures ∙ (read_is _ (sym c.read_cipher.ensures ∙ c.in-Is.is)).0 in it)); iv_len = n }
 
--- UNCONVERTED returns-3 -> returns
+pub returns : goal.returns
+returns c =
+    λ y t o. (let it : (tray text out : List ℕ) {m c : ℕ} {r : Outcome} {ws' : List ℕ} → m ≡ ((line_on (card_in c.args.card.now) c.args.i)).mode → c ≡ ((line_on (card_in c.args.card.now) c.args.i)).cipher → EffectLeaves c.args.card.now text out (start_with c.args.i m c ((take iv_length (drop start_iv c.args.command.now)))) r ws' out → CommandLeaves c.args.card.now (Start c.args.i) (call_of c.args.command.now tray text out) r ws' out = λ tray text out {r. r} {ws' = ws'} e f h = subst (λ (x : Effect). EffectLeaves c.args.card.now text out x r ws' out) ((λ j. start_with c.args.i (e j) (f j) ((take iv_length (drop start_iv c.args.command.now)))) ∙ sym (start-decided c.args.card.now c.args.i c.args.command.now tray text out)) h in it) y t o (sym ((let it : ((line_on (card_in c.args.card.now) c.args.i)).mode ≡ 2 = sym c.mode_at-mode.ensures ∙ c.if-mode-ne2.false in it))) (sym ((let it : ((line_on (card_in c.args.card.now) c.args.i)).cipher ≡ number_of c.in-Is.cipher = sym c.cipher_at-named.ensures ∙ (read_is _ (sym c.read_cipher.ensures ∙ c.in-Is.is)).0 in it))) (c.start_line.ensures t o)

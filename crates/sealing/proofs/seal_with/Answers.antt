@@ -24,7 +24,7 @@ returns-then-t-eq-TRIES c =
     (answered-refused c.refused.ensures)
 
 pub sums-requires : goal.sums-requires
-sums-requires c =record { fit = c.first-found.ensures.fit; t_bound = (found_below ((blocks_from (number_of c.args.c) c.start-w.result)) _ c.first-found.ensures.found.index c.if-t-eq-TRIES.false, c.requires.sized) }
+sums-requires c = record { fit = c.first-found.ensures.fit; t_bound = (found_below ((blocks_from (number_of c.args.c) c.start-w.result)) _ c.first-found.ensures.found.index c.if-t-eq-TRIES.false, c.requires.sized) }
 
 pub returns : goal.returns
 returns c =
