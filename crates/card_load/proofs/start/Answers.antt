@@ -19,4 +19,4 @@ returns-in-Rabbit c = rabbit-started c.args.kept.now c.args.iv.now c.in-Rabbit.i
 
 pub returns-in_default : goal.returns-in_default
 returns-in_default c =
-    key-started c.args.c c.in_default-own.keys2 c.args.kept.now _ c.start_spelt.ensures
+    key-started c.args.c c.in_default.in_default-own.keys2 c.args.kept.now _ c.start_spelt.ensures
