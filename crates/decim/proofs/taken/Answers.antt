@@ -10,11 +10,8 @@ use Rattle.decim.specs.Cipher.{joined_up}
 use Rattle.decim.proofs.Bytes.{digit, up_turn, up_fits, up-below}
 use Rattle.decim.proofs.Turns.{refills_more}
 use borrow.Author.Rules.{rules}
+use Rattle.decim.proofs.taken.Invariants.{bit_after}
 use Rattle.decim.proofs.taken.Goals as goal
-
--- the bit that is taken after k others
-abbrev bit_after : ℕ → Buffer → ℕ → ℕ
-bit_after f h k = bit_in (refills f h k).b 0
 
 pub loop-k-init : goal.loop-k-init
 unfolding refills joined_up

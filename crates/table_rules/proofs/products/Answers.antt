@@ -16,4 +16,4 @@ loop-k-preserved c =
 
 pub returns : goal.returns
 unfolding products_of
-returns c = entered_all (λ i. scaled c.args.p i c.args.v) c.loop-k-test.false c.loop-k.invariant
+returns c = let q = entered_all (λ i. scaled c.args.p i c.args.v) c.loop-k-test.false c.loop-k.invariant in record { value = q.0; value_2 = q.1 }
