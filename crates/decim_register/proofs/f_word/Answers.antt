@@ -1,0 +1,24 @@
+-- `decim_register::f_word` meets its contract: LF, with the window of the second bit.
+-- Assumes nothing.
+use mathlib.Core.Path.{◌≡◌}
+use Prim.Native.Nat.{ℕ}
+use lib.Dec.{lit<}
+use lib.ListN.{length, get_or}
+use mir.Val.{Fits}
+use mir.Syntax.{w32}
+use Rattle.words.proofs.Ranges.{all-by}
+use Rattle.decim_register.proofs.Feeding.{f-is}
+use borrow.Author.Rules.{rules}
+use Rattle.decim_register.proofs.f_word.Goals as goal
+
+pub returns : goal.returns
+returns c =
+    let six : length c.args.a ≡ 6 = search rules in
+    let fits : (i : ℕ) → Fits w32 (get_or c.args.a i 0) = λ i. search rules in
+    rw (c.filter_word.ensures, c.splice.ensures) (f-is c.args.a six (all-by c.args.a (λ i h. (fits i).fits)))
+
+pub bounds-a-0 : goal.bounds-a-0
+bounds-a-0 c = lit< tt
+
+pub bounds-a-1 : goal.bounds-a-1
+bounds-a-1 c = lit< tt

@@ -1,0 +1,17 @@
+-- `gf64_table::times` meets its contract. The loop's invariant: what is summed and what the digits that are left give is the product.
+-- Assumes nothing.
+use Prim.Native.Nat.{◌-◌}
+use native.Mathlib.Omega.{arith}
+use Rattle.gf64_table.proofs.Tables.{Taken, taken_none, taken_more, taken-all}
+use borrow.Author.Rules.{rules}
+use Rattle.gf64_table.proofs.times.Goals as goal
+
+pub loop-at-init : goal.loop-at-init
+loop-at-init c = taken_none _ _
+
+pub loop-at-preserved : goal.loop-at-preserved
+loop-at-preserved c =
+    taken_more c.loop-at-test.true c.loop-at.invariant
+
+pub returns : goal.returns
+returns c = taken-all c.loop-at-test.false c.loop-at.invariant

@@ -1,0 +1,17 @@
+-- `rabbit_units::part` meets its contract: the bytes are those of one unit, which is used up or not.
+-- Assumes nothing.
+use native.Mathlib.Omega.{arith}
+use Rattle.keystream.proofs.Parts.{part_end, part-within}
+use Rattle.rabbit.specs.Generator.{gen}
+use borrow.Author.Rules.{rules}
+use Rattle.rabbit_units.proofs.part.Goals as goal
+
+pub returns-then-from-used-eq16 : goal.returns-then-from-used-eq16
+unfolding gen
+returns-then-from-used-eq16 c =
+    part_end gen (omega arith) c.args.from c.args.used c.args.st c.args.text.now c.args.out.now _ _ c.bytes-ks.ensures (omega arith) c.put_part.ensures c.if-from-used-eq16.true c.step.ensures
+
+pub returns-else-from-used-eq16 : goal.returns-else-from-used-eq16
+unfolding gen
+returns-else-from-used-eq16 c =
+    part-within gen (omega arith) c.args.from c.args.used c.args.st c.args.text.now c.args.out.now _ _ c.bytes-ks.ensures (omega arith) c.put_part.ensures (omega (arith, c.if-from-used-eq16.false))

@@ -1,0 +1,11 @@
+-- `rabbit_vectors::stream` meets its contract: the loop counts up to units.
+-- Assumes nothing.
+use Prim.Native.Nat.{◌-◌, ◌≤◌}
+use borrow.Author.Rules.{rules}
+use Rattle.rabbit_vectors.proofs.stream.Given as goal
+
+abbrev pub invariant-loop-i : goal.invariant-loop-i
+invariant-loop-i l = l.i ≤ l.units
+
+abbrev pub decreases-loop-i : goal.decreases-loop-i
+decreases-loop-i l = l.units - l.i

@@ -1,0 +1,21 @@
+-- `table_rules::substitution` meets its contract: the first k entries are the affine map of the inverse.
+-- Assumes nothing.
+use mathlib.Core.Path.{◌∙◌}
+use Prim.Native.Nat.{ℕ, ◌-◌}
+use Rattle.field.specs.Gf8.{inverse}
+use Rattle.field.specs.Aes.{affine}
+use Rattle.table_rules.specs.Rules.{substitution_of}
+use Rattle.table_rules.proofs.Tables.{Entered, entered-none, entered-more, entered_all}
+use borrow.Author.Rules.{rules}
+use Rattle.table_rules.proofs.substitution.Goals as goal
+
+pub loop-k-init : goal.loop-k-init
+loop-k-init c = entered-none (λ i. affine (inverse c.args.p i))
+
+pub loop-k-preserved : goal.loop-k-preserved
+loop-k-preserved c =
+    entered-more (λ j. affine (inverse c.args.p j)) c.loop-k-test.true (c.wide.ensures.0 ∙ c.substituted.ensures) c.loop-k.invariant
+
+pub returns : goal.returns
+unfolding substitution_of
+returns c = entered_all (λ i. affine (inverse c.args.p i)) c.loop-k-test.false c.loop-k.invariant
