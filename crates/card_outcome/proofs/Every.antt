@@ -90,7 +90,7 @@ run_of ws (a ∷ more) = let s = card_step (card_in ws) a in made_of a s ∷ run
 
 pub calls-of : (ws : List ℕ) (calls : List Call) → calls_of (run_of ws calls) ≡ calls
 calls-of ws [] = refl
-calls-of ws (a ∷ more) = ap (◌∷◌ a) (calls-of _ more)
+calls-of ws (a ∷ more) = ap (◌∷◌ a) (calls-of (words_of (card_step (card_in ws) a) ws) more)
 
 pub fresh-stored : Stored fresh_machine (replicate card_size 0)
 fresh-stored = record { good = fresh-good; eight = refl; card = fresh-words ∙ sym fresh-seen; size = refl }

@@ -33,6 +33,7 @@ pub data Chain : List Stream → Type 0 where
   chain_more : {s : Stream} {rest : List Stream} → s.line.pos ≡ 0 → Chain rest → Chain (s ∷ rest)
 
 stream-below : (ss : List Stream) → Chain ss → (j : ℕ) → stream_at ss j < length ss
+stream-below [] c j = elim c [ ]
 stream-below (s ∷ []) (chain-one e) j = go (leb s.since j)
   where
     go : (b : Bool) → pick b 0 0 < 1
@@ -72,6 +73,7 @@ steady-in s rest j h =
     }
 
 steady : (ss : List Stream) → Chain ss → (j : ℕ) → Steady ss j
+steady [] c j = elim c [ ]
 steady (s ∷ []) (chain-one e) j = steady-in s [] j (omega (arith, e))
 steady (s ∷ rest) (chain_more e c) j = by (dec_lt j s.since) (dec_lt (suc j) s.since) (steady rest c j)
   where
@@ -179,6 +181,7 @@ module _ (m : Machine) (good : GoodCard m) (a : Call) (i : ℕ) (g : Log) (h : H
   note-ordered (put j _ size) (did-load _ c key) (was-load n f k) _ = pick-ordered (eqb j i) _ g (λ _. begun-ordered _) o
   note-ordered (start j _ size) (did-start _ iv) (was-start n up) _ = pick-ordered (eqb j i) _ g (λ _. begun-ordered _) o
   note-ordered (change j p _ size) (did-change _ _ key iv) (was-change n up z le) _ = pick-ordered (eqb j i) _ g (λ _. change-ordered g p _ o) o
+  note-ordered _ _ x _ = elim x [ ]
 
 pub step-ordered : (m : Machine) (c : Seen) (g : ℕ → Log) (x : Made) → Reached m c g → AllBytes (x ∷ []) → x ≡ made_of x.call (shows (step m x.call)) → ((i : ℕ) → Ordered (g i)) →
     (i : ℕ) → Ordered (noted i (g i) (did x))

@@ -176,6 +176,7 @@ module _ (m : Machine) (eight : length m.lines ≡ 8) (a : Call) where
   tells (put j _ size) (did-load _ _ _) (was-load n f k) = record { line = set_at j _ n; bytes = f; full = k }
   tells (start j _ size) (did-start _ _) (was-start n up) = set_at j _ n
   tells (change j p _ size) (did-change _ _ _ _) (was-change n up d le) = set_at j _ n
+  tells _ _ x = elim x [ ]
 
   -- by what it did, known by an equation
   told : (e : Effect) (d : Did) → Explained m a e d → (d' : Did) → d ≡ d' → Tells a m (perform m a.text e).machine d'
@@ -202,6 +203,7 @@ module _ (m : Machine) (a : Call) (i : ℕ) where
   other-line (put j _ size) (did-load _ _ _) (was-load n g k) f = kept j _ n (f refl)
   other-line (start j _ size) (did-start _ _) (was-start n up) f = kept j _ n (f refl)
   other-line (change j p _ size) (did-change _ _ _ _) (was-change n up d le) f = kept j _ n (f refl)
+  other-line _ _ x f = elim x [ ]
 
   other-log : (e : Effect) (d : Did) → Explained m a e d → Apart e → (g : Log) → noted i g d ≡ g
   other-log (refuse k) did_nothing was-refused f g = refl
@@ -213,6 +215,7 @@ module _ (m : Machine) (a : Call) (i : ℕ) where
   other-log (put j _ size) (did-load _ _ _) (was-load n b k) f g = no_note j _ g n (f refl)
   other-log (start j _ size) (did-start _ _) (was-start n up) f g = no_note j _ g n (f refl)
   other-log (change j p _ size) (did-change _ _ _ _) (was-change n up d le) f g = no_note j _ g n (f refl)
+  other-log _ _ x f g = elim x [ ]
 
 -- ---- two calls of a list
 

@@ -43,6 +43,7 @@ held-step m a i n (put j _ size) (did-close _) (was-close _) f g h = h
 held-step m a i n (put j _ size) (did-load _ _ _) (was-load _ _ _) f g h = h
 held-step m a i n (start j _ size) (did-start _ _) (was-start _ _) f g h = h
 held-step m a i n (change j p _ size) (did-change _ _ _ _) (was-change _ _ _ _) f g h = h
+held-step m a i n _ _ x f g h = elim x [ ]
 
 held_after : (ys : List Made) (m : Machine) (i n : ℕ) → Runs m ys → AllLeave i n ys → held_for m.parks i ≡ n → held_for (machine_after m ys).parks i ≡ n
 unfolding step
@@ -71,6 +72,7 @@ count-step m a i (put j _ size) (did-close _) (was-close _) l = omega arith
 count-step m a i (put j _ size) (did-load _ _ _) (was-load _ _ _) l = omega arith
 count-step m a i (start j _ size) (did-start _ _) (was-start _ _) l = omega arith
 count-step m a i (change j p _ size) (did-change _ _ _ _) (was-change _ _ _ _) l = omega arith
+count-step m a i _ _ x l = elim x [ ]
 
 count-after : (ys : List Made) (m : Machine) (i : ℕ) → Runs m ys → Long m.parks → count_for (machine_after m ys).parks i ≡ count_for m.parks i + parks_from i ys
 unfolding step

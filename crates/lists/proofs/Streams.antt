@@ -212,6 +212,7 @@ module _ (m : Machine) (eight : length m.lines ≡ 8) (a : Call) (i : ℕ) (g : 
   effect-held (put j _ size) (did-load _ c key) (was-load n f k) = set-one j _ _ n (λ _. loaded-held c key)
   effect-held (start j _ size) (did-start _ iv) (was-start n up) = set-one j _ _ n (λ e. started-held (line_at m j) g (at j e) iv)
   effect-held (change j p _ size) (did-change _ _ key iv) (was-change n up z le) = set-one j _ _ n (λ e. changed-held (line_at m j) g (at j e) z p key iv le)
+  effect-held _ _ x = elim x [ ]
 
 -- ---- what is seen of a line
 

@@ -111,6 +111,7 @@ unfolding along
 newest-begun l g h d c = by g.streams c h.place
   where
     by : (ss : List Stream) → Chain ss → ((j : ℕ) → bare (moved l j) ≡ place_at ss (length g.ins + j)) → (newest ss).since ≤ length g.ins
+    by [] c f = elim c [ ]
     by (s ∷ []) (chain-one e) f = omega (arith, e)
     by (s ∷ rest) (chain_more e c) f = go (dec_lt (length g.ins) s.since)
       where
@@ -126,6 +127,7 @@ standing-newest : (g : Log) → Chain g.streams → (newest g.streams).since ≤
 standing-newest g c q = by g.streams c q
   where
     by : (ss : List Stream) → Chain ss → (newest ss).since ≤ length g.ins → place_at ss (length g.ins) ≡ along (newest ss).line (length g.ins - (newest ss).since)
+    by [] c q = elim c [ ]
     by (s ∷ rest) c q = place-yes s rest (length g.ins) q
 
 changed-mode : (l : MLine) (p : ℕ) (s : List ℕ) → (changed l p s).mode ≡ l.mode
@@ -225,6 +227,7 @@ module _ (m : Machine) (eight : length m.lines ≡ 8) (a : Call) (b : CallBytes 
       set-from j _ _ _ n
       (λ e. subst (λ (l : MLine). From (changed l p s) (new_stream g p (stream_of (standing g).cipher key iv)) (then-changed t p key iv)) (ap (line_at m) (sym e))
       (change-from (line_at m i) g t w h (subst (λ (x : ℕ). (line_at m x).due ≡ 0) e z) chain p (subst (λ (x : ℕ). (line_at m x).pos ≤ p) e le) (subst (λ (x : ℕ). (line_at m x).mode ≡ 1) e up) key iv s))
+  given-step _ _ x = elim x [ ]
 
 givens : (xs : List Made) (m : Machine) (c : Seen) (g : ℕ → Log) → Reached m c g → Runs m xs → AllBytes xs → ((i : ℕ) → Ordered (g i)) → (i : ℕ) (t : Given) → From (line_at m i) (g i) t →
     From (line_at (machine_after m xs) i) (log_after i (g i) xs) (given_from i t xs)

@@ -158,6 +158,7 @@ module _ (m m' : Machine) (same : public m ≡ public m') where
       accepted size 0 (put_same i _ _ (view-changed (line_at m i) p s ∙ ap (λ (w : View). changed_view w p) (view-same i) ∙ sym (view-changed (line_at m' i) p s'))) refl
   same-perform text text' (start i iv size) (start _ iv' _) same_start =
       accepted size 0 (put_same i _ _ (view-started (line_at m i) iv ∙ ap started_view (view-same i) ∙ sym (view-started (line_at m' i) iv'))) refl
+  same-perform text text' _ _ x = elim x [ ]
 
   same_step : (a b : Call) → Shares (public m) a b → SameStep (step m a) (step m' b)
   unfolding step

@@ -363,3 +363,4 @@ module _ (m : Machine) (eight : length m.lines ≡ 8) (good : GoodCard m) (a : C
   call-apart (put j l size) (did-load _ c key) (was-load s g k) _ n = shut_apart j l s.below (λ z. omega (arith, z))
   call-apart (start j iv size) (did-start _ _) (was-start s up) _ n = begin-apart j 0 _ _ _ n (first_kind j _)
   call-apart (change j p _ size) (did-change _ _ key iv) (was-change s up z le) _ n = begin-apart j _ _ _ _ n (change-kind j p (change_origin t j key iv) up)
+  call-apart _ _ x _ n = elim x [ ]

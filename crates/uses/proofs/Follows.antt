@@ -298,3 +298,4 @@ module _ (m : Machine) (eight : length m.lines ≡ 8) (good : GoodCard m) (a : C
             (λ _ z. absurd (changed-open (line_at m j) p _ up z)) (w.loads i);
         images = w.images;
       }
+  call-link _ _ x _ f = elim x [ ]

@@ -131,6 +131,7 @@ crypted m a (put j _ size) (did-close _) (was-close _) _ i input output z = absu
 crypted m a (put j _ size) (did-load _ _ _) (was-load _ _ _) _ i input output z = absurd (nope cc)
 crypted m a (start j _ size) (did-start _ _) (was-start _ _) _ i input output z = absurd (nope cc)
 crypted m a (change j _ _ size) (did-change _ _ _ _) (was-change _ _ _ _) _ i input output z = absurd (nope cc)
+crypted m a _ _ x _ i input output z = elim x [ ]
 
 -- what an open line makes of a text
 made : (l : MLine) (g : Log) (f : ℕ → KeyByte) → Held l g → Follows g f → (text : List ℕ) → enciphered l text ≡ xor_from (λ k. value_of (f k)) 0 text

@@ -46,6 +46,7 @@ only x y (in_tail i) = absurd (in-none i)
 
 -- what stands in the first part does not stand in the second, and the first part has nothing twice
 pub parts-apart : {A : Type 0} {x : A} (xs ys : List A) → NoneTwice (xs ++ ys) → In x xs → In x ys → ⊥
+parts-apart [] ys n i j = elim i [ ]
 parts-apart (y ∷ xs) ys n in_head j = n.0 (second-in xs j)
 parts-apart (y ∷ xs) ys n (in_tail i) j = parts-apart xs ys n.1 i j
 
@@ -70,6 +71,7 @@ pub record Nth (n : ℕ) (f : ℕ → KeyByte) (b : KeyByte) : Type 0 where
   pub is : b ≡ f number
 
 pub nth_of : (n : ℕ) (f : ℕ → KeyByte) (b : KeyByte) → In b (first_bytes n f) → Nth n f b
+nth_of zero f b i = elim i [ ]
 nth_of (suc n) f b in_head = record { number = 0; below = omega arith; is = refl }
 nth_of (suc n) f b (in_tail i) =
     let w = nth_of n (λ k. f (suc k)) b i in

@@ -10,7 +10,7 @@ loop-i-init c = (search rules, refl)
 
 pub loop-i-preserved : goal.loop-i-preserved
 loop-i-preserved c =
-    celled-more c.args.w.now c.loop-i.all c.loop-i.i c.wrapping_add_u32-before.result (search rules) (search rules) c.wrapping_add_u32-before.ensures c.loop-i.invariant
+    celled-more c.args.w.now c.loop-i.all c.loop-i.i c.wrapping_add_u32-before.result (search rules) (search rules) c.wrapping_add_u32-before.ensures.value c.loop-i.invariant
 
 pub returns : goal.returns
 returns c =

@@ -13,4 +13,4 @@ pub returns-in-Snow256 : goal.returns-in-Snow256
 returns-in-Snow256 c = keeps-long c.args.w.now c.in-Snow256.is c.key_alone.ensures
 
 pub returns-in_default : goal.returns-in_default
-returns-in_default c = keeps-short c.args.w.now c.args.c c.in_default.keys3 c.key_alone-in_default.ensures
+returns-in_default c = keeps-short c.args.w.now c.args.c c.in_default.in_default-own.keys3 c.key_alone-in_default.ensures

@@ -20,4 +20,11 @@ pub returns-then-due-n : goal.returns-then-due-n
 returns-then-due-n c =
     (low-waits c.args.line.now c.requires c.args.c c.args.n (sym c.words_zero-none.ensures ∙ c.if-none.false) (subst (λ (x : ℕ). x ≤ c.args.n) c.due_of-due.ensures.0 c.if-due-n.true), c.due_of-due.ensures.1)
 
--- UNCONVERTED returns-3 -> returns
+pub returns : goal.returns
+returns c =
+    let h : c.args.n < (line_in c.args.line.now).due = subst (λ (x : ℕ). c.args.n < x) c.due_of-due.ensures.0 (omega (arith, c.if-due-n.false)) in (
+      c.open_with.ensures
+          ∙ ap₂ (λ (x : ℕ) (w : List ℕ). state_ok c.args.c x w) c.due_of-due.ensures.0 (waiting-slice c.args.line.now c.requires)
+          ∙ above c.args.c c.args.n (line_in c.args.line.now).due (line_in c.args.line.now).waiting h,
+      c.due_of-due.ensures.1,
+    )

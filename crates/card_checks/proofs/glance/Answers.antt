@@ -19,24 +19,24 @@ returns-then-c-eq5 c =
 
 pub returns-then-not-rest : goal.returns-then-not-rest
 returns-then-not-rest c =
-    glanced-not c.args.line.now c.requires c.args.c c.if-c-eq6.left c.if-c-eq5.left (sym c.words_zero-rest.ensures ∙ not-true _ c.if-not-rest.true-raw)
+    glanced-not c.args.line.now c.requires c.args.c c.if-c-eq6.false c.if-c-eq5.false (sym c.words_zero-rest.ensures ∙ not-true _ c.if-not-rest.true-raw)
 
 pub returns-then-c-eq3 : goal.returns-then-c-eq3
 returns-then-c-eq3 c =
-    glanced-snow128 c.args.line.now c.requires c.args.c c.if-c-eq6.left c.if-c-eq5.left ((let it : all_zero (take 60 (drop 22 c.args.line.now)) ≡ true = sym c.words_zero-rest.ensures ∙ not-false _ c.if-not-rest.false-raw in it)) c.if-c-eq3.true
+    glanced-snow128 c.args.line.now c.requires c.args.c c.if-c-eq6.false c.if-c-eq5.false ((let it : all_zero (take 60 (drop 22 c.args.line.now)) ≡ true = sym c.words_zero-rest.ensures ∙ not-false _ c.if-not-rest.false-raw in it)) c.if-c-eq3.true
 
 pub returns-then-c-eq1 : goal.returns-then-c-eq1
 returns-then-c-eq1 c =
-    c.cells.ensures ∙ glanced-zuc c.args.line.now c.requires c.args.c c.if-c-eq6.left c.if-c-eq5.left ((let it : all_zero (take 60 (drop 22 c.args.line.now)) ≡ true = sym c.words_zero-rest.ensures ∙ not-false _ c.if-not-rest.false-raw in it)) c.if-c-eq1.true
+    c.cells.ensures ∙ glanced-zuc c.args.line.now c.requires c.args.c c.if-c-eq6.false c.if-c-eq5.false ((let it : all_zero (take 60 (drop 22 c.args.line.now)) ≡ true = sym c.words_zero-rest.ensures ∙ not-false _ c.if-not-rest.false-raw in it)) c.if-c-eq1.true
 
 pub returns-then-spare-ne0 : goal.returns-then-spare-ne0
 returns-then-spare-ne0 c =
-    glanced-rabbit c.args.line.now c.requires c.args.c c.if-c-eq6.left c.if-c-eq5.left ((let it : all_zero (take 60 (drop 22 c.args.line.now)) ≡ true = sym c.words_zero-rest.ensures ∙ not-false _ c.if-not-rest.false-raw in it)) c.if-c-eq2.true (ne_eqb _ 0 c.if-spare-ne0.true)
+    glanced-rabbit c.args.line.now c.requires c.args.c c.if-c-eq6.false c.if-c-eq5.false ((let it : all_zero (take 60 (drop 22 c.args.line.now)) ≡ true = sym c.words_zero-rest.ensures ∙ not-false _ c.if-not-rest.false-raw in it)) c.if-c-eq2.true (ne_eqb _ 0 c.if-spare-ne0.true)
 
 pub returns-then-c-eq2 : goal.returns-then-c-eq2
 returns-then-c-eq2 c =
-    c.is_carry.ensures ∙ glanced-rabbit c.args.line.now c.requires c.args.c c.if-c-eq6.left c.if-c-eq5.left ((let it : all_zero (take 60 (drop 22 c.args.line.now)) ≡ true = sym c.words_zero-rest.ensures ∙ not-false _ c.if-not-rest.false-raw in it)) c.if-c-eq2.true (eq-eqb _ 0 c.if-spare-ne0.false)
+    c.is_carry.ensures ∙ glanced-rabbit c.args.line.now c.requires c.args.c c.if-c-eq6.false c.if-c-eq5.false ((let it : all_zero (take 60 (drop 22 c.args.line.now)) ≡ true = sym c.words_zero-rest.ensures ∙ not-false _ c.if-not-rest.false-raw in it)) c.if-c-eq2.true (eq-eqb _ 0 c.if-spare-ne0.false)
 
 pub returns : goal.returns
 returns c =
-    glanced-snow256 c.args.line.now c.requires c.args.c c.if-c-eq6.left c.if-c-eq5.left ((let it : all_zero (take 60 (drop 22 c.args.line.now)) ≡ true = sym c.words_zero-rest.ensures ∙ not-false _ c.if-not-rest.false-raw in it)) c.if-c-eq3.false c.if-c-eq1.false c.if-c-eq2.false
+    glanced-snow256 c.args.line.now c.requires c.args.c c.if-c-eq6.false c.if-c-eq5.false ((let it : all_zero (take 60 (drop 22 c.args.line.now)) ≡ true = sym c.words_zero-rest.ensures ∙ not-false _ c.if-not-rest.false-raw in it)) c.if-c-eq3.false c.if-c-eq1.false c.if-c-eq2.false

@@ -14,6 +14,10 @@ use Rattle.card_checks.specs.Glances.{glanced}
 use borrow.Author.Rules.{rules}
 use Rattle.card_checks.proofs.seen_ok.Goals as goal
 
--- UNCONVERTED returns -> returns-then-n-gt-LIMIT
+pub returns-then-n-gt-LIMIT : goal.returns-then-n-gt-LIMIT
+returns-then-n-gt-LIMIT c = (let it : (b : Bool) → leb c.position_of-n.result limit ≡ b → both b (glanced (get_or c.args.line.now 1 0) c.args.line.now) ≡ both (leb (line_in c.args.line.now).n limit) (glanced (get_or c.args.line.now 1 0) c.args.line.now) = λ b h. ap (λ (x : Bool). both x (glanced (get_or c.args.line.now 1 0) c.args.line.now)) (sym h ∙ ap (λ (n : ℕ). leb n limit) c.position_of-n.ensures.0) in it) false (lt-leb _ limit c.if-n-gt-LIMIT.true)
 
--- UNCONVERTED returns-2 -> returns
+pub returns : goal.returns
+returns c =
+    let h : c.position_of-n.result ≤ limit = omega (arith, c.if-n-gt-LIMIT.false) in
+    c.glance.ensures ∙ (let it : (b : Bool) → leb c.position_of-n.result limit ≡ b → both b (glanced (get_or c.args.line.now 1 0) c.args.line.now) ≡ both (leb (line_in c.args.line.now).n limit) (glanced (get_or c.args.line.now 1 0) c.args.line.now) = λ b h. ap (λ (x : Bool). both x (glanced (get_or c.args.line.now 1 0) c.args.line.now)) (sym h ∙ ap (λ (n : ℕ). leb n limit) c.position_of-n.ensures.0) in it) true (le-leb _ limit h)

@@ -32,7 +32,7 @@ nonzero_rem-skip c = unit-up ((let l = line_in ((c.args.line.now)) in record { m
 pub crypt-requires : goal.crypt-requires
 crypt-requires c =
     let n : length (take state_words (drop head_words ((c.args.line.now)))) ≡ state_words = search rules in
-    ((n, state-admits ((let l = line_in ((c.args.line.now)) in record { mode = 1; cipher = number_of ((c.in-Is.c)); n = c.position_of-n.result; words = take state_words (drop head_words ((c.args.line.now))); due = l.due; waiting = l.waiting })).cipher ((let l = line_in ((c.args.line.now)) in record { mode = 1; cipher = number_of ((c.in-Is.c)); n = c.position_of-n.result; words = take state_words (drop head_words ((c.args.line.now))); due = l.due; waiting = l.waiting })).n ((let l = line_in ((c.args.line.now)) in record { mode = 1; cipher = number_of ((c.in-Is.c)); n = c.position_of-n.result; words = take state_words (drop head_words ((c.args.line.now))); due = l.due; waiting = l.waiting })).words (ap image_ok ((let it : (let l = line_in ((c.args.line.now)) in record { mode = 1; cipher = number_of ((c.in-Is.c)); n = c.position_of-n.result; words = take state_words (drop head_words ((c.args.line.now))); due = l.due; waiting = l.waiting }) ≡ line_in ((c.args.line.now)) = λ j. record { mode = sym c.requires.up j; cipher = (sym ((let it : c.cipher_of-cipher.result ≡ number_of ((c.in-Is.c)) = (read_is _ (sym c.read_cipher.ensures ∙ c.in-Is.is)).0 in it)) ∙ c.cipher_of-cipher.ensures) j; n = c.position_of-n.ensures.0 j; words = state-slice ((c.args.line.now)) c.requires.held.size j; due = (line_in ((c.args.line.now))).due; waiting = (line_in ((c.args.line.now))).waiting; } in it)) ∙ c.requires.ok)), (place-within ((let l = line_in ((c.args.line.now)) in record { mode = 1; cipher = number_of ((c.in-Is.c)); n = c.position_of-n.result; words = take state_words (drop head_words ((c.args.line.now))); due = l.due; waiting = l.waiting })).cipher ((let l = line_in ((c.args.line.now)) in record { mode = 1; cipher = number_of ((c.in-Is.c)); n = c.position_of-n.result; words = take state_words (drop head_words ((c.args.line.now))); due = l.due; waiting = l.waiting })).n _ c.unit_of-unit.ensures, c.requires.room))
+    record { w_len = (n, state-admits ((let l = line_in ((c.args.line.now)) in record { mode = 1; cipher = number_of ((c.in-Is.c)); n = c.position_of-n.result; words = take state_words (drop head_words ((c.args.line.now))); due = l.due; waiting = l.waiting })).cipher ((let l = line_in ((c.args.line.now)) in record { mode = 1; cipher = number_of ((c.in-Is.c)); n = c.position_of-n.result; words = take state_words (drop head_words ((c.args.line.now))); due = l.due; waiting = l.waiting })).n ((let l = line_in ((c.args.line.now)) in record { mode = 1; cipher = number_of ((c.in-Is.c)); n = c.position_of-n.result; words = take state_words (drop head_words ((c.args.line.now))); due = l.due; waiting = l.waiting })).words (ap image_ok ((let it : (let l = line_in ((c.args.line.now)) in record { mode = 1; cipher = number_of ((c.in-Is.c)); n = c.position_of-n.result; words = take state_words (drop head_words ((c.args.line.now))); due = l.due; waiting = l.waiting }) ≡ line_in ((c.args.line.now)) = λ j. record { mode = sym c.requires.up j; cipher = (sym ((let it : c.cipher_of-cipher.result ≡ number_of ((c.in-Is.c)) = (read_is _ (sym c.read_cipher.ensures ∙ c.in-Is.is)).0 in it)) ∙ c.cipher_of-cipher.ensures) j; n = c.position_of-n.ensures.0 j; words = state-slice ((c.args.line.now)) c.requires.held.size j; due = (line_in ((c.args.line.now))).due; waiting = (line_in ((c.args.line.now))).waiting; } in it)) ∙ c.requires.ok)); skip_bound = (place-within ((let l = line_in ((c.args.line.now)) in record { mode = 1; cipher = number_of ((c.in-Is.c)); n = c.position_of-n.result; words = take state_words (drop head_words ((c.args.line.now))); due = l.due; waiting = l.waiting })).cipher ((let l = line_in ((c.args.line.now)) in record { mode = 1; cipher = number_of ((c.in-Is.c)); n = c.position_of-n.result; words = take state_words (drop head_words ((c.args.line.now))); due = l.due; waiting = l.waiting })).n _ c.unit_of-unit.ensures, c.requires.room) }
 
 pub returns : goal.returns
 returns c =

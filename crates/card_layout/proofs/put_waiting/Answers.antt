@@ -8,7 +8,7 @@ use borrow.Author.Rules.{rules}
 use Rattle.card_layout.proofs.put_waiting.Goals as goal
 
 pub put_change-requires : goal.put_change-requires
-put_change-requires c =record { line_held = part_held c.args.card.now c.args.i c.requires.sound.1 c.requires.sound.0.size c.requires.sound.0.held; state_len = c.requires.state_len }
+put_change-requires c = record { line_held = part_held c.args.card.now c.args.i c.requires.sound.1 c.requires.sound.0.size c.requires.sound.0.held; state_len = c.requires.state_len }
 
 pub returns : goal.returns
 returns c =

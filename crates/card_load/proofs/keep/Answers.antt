@@ -23,4 +23,4 @@ returns-in-Rabbit c = rabbit-kept c.args.key.now c.in-Rabbit.is c.keep.ensures
 
 pub returns-in_default : goal.returns-in_default
 returns-in_default c =
-    key-kept c.args.c c.in_default.keys2 c.args.key.now c.key_words.ensures
+    key-kept c.args.c c.in_default.in_default-own.keys2 c.args.key.now c.key_words.ensures

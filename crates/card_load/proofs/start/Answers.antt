@@ -12,11 +12,11 @@ pub slice_bounds-start-end : goal.slice_bounds-start-end
 slice_bounds-start-end c = sym ((let it : length (take 8 c.args.iv.now) ≡ 8 = length-take-le 8 c.args.iv.now (omega (arith, c.requires.iv_len)) in it))
 
 pub start-requires : goal.start-requires
-start-requires c =record { kept_len = (c.requires.kept_len.0, rabbit-admits c.args.kept.now c.in-Rabbit.is c.requires.kept_len.1); iv_len = (let it : length (take 8 c.args.iv.now) ≡ 8 = length-take-le 8 c.args.iv.now (omega (arith, c.requires.iv_len)) in it) }
+start-requires c = record { kept_len = (c.requires.kept_len.0, rabbit-admits c.args.kept.now c.in-Rabbit.is c.requires.kept_len.1); iv_len = (let it : length (take 8 c.args.iv.now) ≡ 8 = length-take-le 8 c.args.iv.now (omega (arith, c.requires.iv_len)) in it) }
 
 pub returns-in-Rabbit : goal.returns-in-Rabbit
 returns-in-Rabbit c = rabbit-started c.args.kept.now c.args.iv.now c.in-Rabbit.is c.start.ensures
 
 pub returns-in_default : goal.returns-in_default
 returns-in_default c =
-    key-started c.args.c c.in_default.keys2 c.args.kept.now _ c.start_spelt.ensures
+    key-started c.args.c c.in_default.in_default-own.keys2 c.args.kept.now _ c.start_spelt.ensures

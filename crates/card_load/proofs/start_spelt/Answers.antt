@@ -26,7 +26,7 @@ pub slice_bounds-first_state-end : goal.slice_bounds-first_state-end
 slice_bounds-first_state-end c = sym (length-take-le _ c.put_words.new.out ((let it : c.key_of-k.result ≤ length c.put_words.new.out = let f = key_fits (number_of c.args.c) in let n : length c.put_words.new.out ≡ 32 = search rules in omega (arith, f, c.key_of-k.ensures, n) in it)))
 
 pub first_state-requires : goal.first_state-requires
-first_state-requires c =record { key_len = length-take-le _ c.put_words.new.out ((let it : c.key_of-k.result ≤ length c.put_words.new.out = let f = key_fits (number_of c.args.c) in let n : length c.put_words.new.out ≡ 32 = search rules in omega (arith, f, c.key_of-k.ensures, n) in it)) ∙ c.key_of-k.ensures; iv_len = c.requires.1 }
+first_state-requires c = record { key_len = length-take-le _ c.put_words.new.out ((let it : c.key_of-k.result ≤ length c.put_words.new.out = let f = key_fits (number_of c.args.c) in let n : length c.put_words.new.out ≡ 32 = search rules in omega (arith, f, c.key_of-k.ensures, n) in it)) ∙ c.key_of-k.ensures; iv_len = c.requires.1 }
 
 pub returns : goal.returns
 returns c =

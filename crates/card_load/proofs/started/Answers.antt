@@ -19,10 +19,11 @@ use borrow.Author.Rules.{rules}
 use Rattle.card_load.proofs.started.Goals as goal
 
 pub start-requires : goal.start-requires
+unfolding line_in
 start-requires c =
     let l = line_on (card_in c.args.card.now) c.args.i in
     let ok = loaded-ok-of l (sound-ok c.args.card.now c.requires.sound.0 c.args.i c.requires.sound.1) c.requires.i_value.0 in
-    (((let it : length (take state_words (drop head_words ((take (line_size * c.args.i + line_size - line_size * c.args.i) (drop (line_size * c.args.i) c.args.card.now))))) ≡ state_words = ap length (state-slice ((take (line_size * c.args.i + line_size - line_size * c.args.i) (drop (line_size * c.args.i) c.args.card.now))) (part_length c.args.card.now c.args.i c.requires.sound.1 c.requires.sound.0.size)) in it), ap₂ keeps_ok (sym c.requires.i_value.1) ((let it : take state_words (drop head_words ((take (line_size * c.args.i + line_size - line_size * c.args.i) (drop (line_size * c.args.i) c.args.card.now)))) ≡ (line_on (card_in c.args.card.now) c.args.i).words = state-slice ((take (line_size * c.args.i + line_size - line_size * c.args.i) (drop (line_size * c.args.i) c.args.card.now))) (part_length c.args.card.now c.args.i c.requires.sound.1 c.requires.sound.0.size) ∙ ap (λ (l : Line). l.words) (line-part c.args.card.now c.args.i c.requires.sound.1 c.requires.sound.0.size) in it)) ∙ loaded-keeps l ok), c.requires.iv_len)
+    record { kept_len = ((let it : length (take state_words (drop head_words ((take (line_size * c.args.i + line_size - line_size * c.args.i) (drop (line_size * c.args.i) c.args.card.now))))) ≡ state_words = ap length (state-slice ((take (line_size * c.args.i + line_size - line_size * c.args.i) (drop (line_size * c.args.i) c.args.card.now))) (part_length c.args.card.now c.args.i c.requires.sound.1 c.requires.sound.0.size)) in it), ap₂ keeps_ok (sym c.requires.i_value.1) ((let it : take state_words (drop head_words ((take (line_size * c.args.i + line_size - line_size * c.args.i) (drop (line_size * c.args.i) c.args.card.now)))) ≡ (line_on (card_in c.args.card.now) c.args.i).words = state-slice ((take (line_size * c.args.i + line_size - line_size * c.args.i) (drop (line_size * c.args.i) c.args.card.now))) (part_length c.args.card.now c.args.i c.requires.sound.1 c.requires.sound.0.size) ∙ ap (λ (l : Line). l.words) (line-part c.args.card.now c.args.i c.requires.sound.1 c.requires.sound.0.size) in it)) ∙ loaded-keeps l ok); iv_len = c.requires.iv_len }
 
 pub returns : goal.returns
 returns c =

@@ -29,7 +29,7 @@ pub first_state-state-requires : goal.first_state-state-requires
 first_state-state-requires c =
     let f = key_fits (number_of c.args.cipher) in
     let g = field-full c.args.at (pick c.args.own c.args.command.now c.args.tray.now) c.requires.key_length_in_bounds in
-    (ap length ((let it : (c.key_part-key.result.now) ≡ take (cipher_at ((number_of c.args.cipher))).key ((take key_length (drop c.args.at (pick c.args.own c.args.command.now c.args.tray.now)))) = c.key_part-key.ensures.own ((let it : key_code ((number_of c.args.cipher)) ((take key_length (drop c.args.at (pick c.args.own c.args.command.now c.args.tray.now)))) ((c.args.iv.now)) ≡ 0 = handed-code c.key_part-key.ensures c.if-key-eq0.false in it)) in it)) ∙ length-take-le _ ((take key_length (drop c.args.at (pick c.args.own c.args.command.now c.args.tray.now)))) (omega (arith, f, g)), c.requires.iv_len)
+    record { key_len = ap length ((let it : (c.key_part-key.result.now) ≡ take (cipher_at ((number_of c.args.cipher))).key ((take key_length (drop c.args.at (pick c.args.own c.args.command.now c.args.tray.now)))) = c.key_part-key.ensures.own ((let it : key_code ((number_of c.args.cipher)) ((take key_length (drop c.args.at (pick c.args.own c.args.command.now c.args.tray.now)))) ((c.args.iv.now)) ≡ 0 = handed-code c.key_part-key.ensures c.if-key-eq0.false in it)) in it)) ∙ length-take-le _ ((take key_length (drop c.args.at (pick c.args.own c.args.command.now c.args.tray.now)))) (omega (arith, f, g)); iv_len = c.requires.iv_len }
 
 pub returns : goal.returns
 returns c =

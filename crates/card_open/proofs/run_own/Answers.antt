@@ -12,6 +12,12 @@ use Rattle.card_outcome.proofs.Laws.{busy-is, given-true, given-false, given-ref
 use borrow.Author.Rules.{rules}
 use Rattle.card_open.proofs.run_own.Goals as goal
 
--- UNCONVERTED returns -> returns-then-mode-ne0
+pub returns-then-mode-ne0 : goal.returns-then-mode-ne0
+unfolding decided refuse_if length_of
+returns-then-mode-ne0 c =
+    λ t o. given-true c.args.card.now t o _ _ _ ((let it : (b : Bool) → eqb c.mode_at-mode.result 0 ≡ b → not (is_idle (public_of c.args.card.now) c.args.i) ≡ not b = busy-is c.args.card.now c.args.i c.mode_at-mode.ensures in it) false (ne_eqb _ _ c.if-mode-ne0.true)) (given-refusal c.args.card.now t o 5 (λ z. omega arith) c.refused.ensures)
 
--- UNCONVERTED returns-2 -> returns
+pub returns : goal.returns
+unfolding decided refuse_if length_of
+returns c =
+    λ t o. given-false c.args.card.now t o _ _ _ ((let it : (b : Bool) → eqb c.mode_at-mode.result 0 ≡ b → not (is_idle (public_of c.args.card.now) c.args.i) ≡ not b = busy-is c.args.card.now c.args.i c.mode_at-mode.ensures in it) true (eq-eqb _ _ c.if-mode-ne0.false)) (c.open_line.ensures t o)

@@ -20,7 +20,11 @@ returns-then-held-count c =
     let n = count-is c.args.card.now c.loop-i.i (omega arith) in
     sym (above-bad line_count (card_in c.args.card.now).parks c.loop-i.i (omega arith) (omega (arith, c.if-held-count.true, h, n)))
 
--- UNCONVERTED loop-again -> loop-i-preserved
+pub loop-i-preserved : goal.loop-i-preserved
+loop-i-preserved c =
+    let h = held-is c.args.card.now c.loop-i.i in
+    let n = count-is c.args.card.now c.loop-i.i (omega arith) in
+    (search rules, ap (λ (k : ℕ). none_above k (card_in c.args.card.now).parks) (add-one c.loop-i.i) ∙ above_more c.loop-i.i (card_in c.args.card.now).parks c.loop-i.invariant.1 (omega (arith, c.if-held-count.false, h, n)))
 
 pub returns : goal.returns
 unfolding parks_ok

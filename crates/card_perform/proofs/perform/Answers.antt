@@ -17,23 +17,46 @@ use Rattle.card_perform.proofs.perform.Goals as goal
 found : (ws : List ℕ) {k k' : Command} (a : Call) {r : Outcome} {ws' o : List ℕ} → k ≡ k' → CommandLeaves ws k' a r ws' o → CommandLeaves ws k a r ws' o
 found ws a {r} {ws'} {o} e h = subst (λ (x : Command). CommandLeaves ws x a r ws' o) (sym e) h
 
--- UNCONVERTED run-tray-requires -> run_tray-requires
+pub run_tray-requires : goal.run_tray-requires
+unfolding length_of
+run_tray-requires c =
+    let h = (let it : {k : Command} → c.args.k ≡ k → Has c.args.command.now k = λ e. run-has c.args.command.now (decode_of c.args.command.now) _ (c.requires.1 ∙ ap Run e) (read-in c.args.command.now) in it) c.in-Tray.is in record { sound = (c.requires.0, h.line); tray_length_in_bounds = h.whole }
 
--- UNCONVERTED run-own-requires -> run_own-requires
+pub run_own-requires : goal.run_own-requires
+unfolding length_of
+run_own-requires c =
+    let h = (let it : {k : Command} → c.args.k ≡ k → Has c.args.command.now k = λ e. run-has c.args.command.now (decode_of c.args.command.now) _ (c.requires.1 ∙ ap Run e) (read-in c.args.command.now) in it) c.in-Own.is in record { sound = (c.requires.0, h.line); own_length_in_bounds = h.whole }
 
--- UNCONVERTED run-crypt-requires -> run_crypt-requires
+pub run_crypt-requires : goal.run_crypt-requires
+run_crypt-requires c =
+    (c.requires.0, ((let it : {k : Command} → c.args.k ≡ k → Has c.args.command.now k = λ e. run-has c.args.command.now (decode_of c.args.command.now) _ (c.requires.1 ∙ ap Run e) (read-in c.args.command.now) in it) c.in-Crypt.is).line)
 
--- UNCONVERTED run-park-requires -> run_park-requires
+pub run_park-requires : goal.run_park-requires
+run_park-requires c =
+    (c.requires.0, ((let it : {k : Command} → c.args.k ≡ k → Has c.args.command.now k = λ e. run-has c.args.command.now (decode_of c.args.command.now) _ (c.requires.1 ∙ ap Run e) (read-in c.args.command.now) in it) c.in-Park.is).line)
 
--- UNCONVERTED run-resume-requires -> run_resume-requires
+pub run_resume-requires : goal.run_resume-requires
+unfolding length_of
+run_resume-requires c =
+    let h = (let it : {k : Command} → c.args.k ≡ k → Has c.args.command.now k = λ e. run-has c.args.command.now (decode_of c.args.command.now) _ (c.requires.1 ∙ ap Run e) (read-in c.args.command.now) in it) c.in-Resume.is in record { sound = (c.requires.0, h.line); resume_length_in_bounds = h.whole }
 
--- UNCONVERTED run-close-requires -> run_close-requires
+pub run_close-requires : goal.run_close-requires
+run_close-requires c =
+    (c.requires.0, ((let it : {k : Command} → c.args.k ≡ k → Has c.args.command.now k = λ e. run-has c.args.command.now (decode_of c.args.command.now) _ (c.requires.1 ∙ ap Run e) (read-in c.args.command.now) in it) c.in-Close.is).line)
 
--- UNCONVERTED run-change-requires -> run_change-requires
+pub run_change-requires : goal.run_change-requires
+unfolding length_of
+run_change-requires c =
+    let h = (let it : {k : Command} → c.args.k ≡ k → Has c.args.command.now k = λ e. run-has c.args.command.now (decode_of c.args.command.now) _ (c.requires.1 ∙ ap Run e) (read-in c.args.command.now) in it) c.in-Change.is in record { sound = (c.requires.0, h.line); change_length_in_bounds = h.whole }
 
--- UNCONVERTED run-load-requires -> run_load-requires
+pub run_load-requires : goal.run_load-requires
+run_load-requires c =
+    (c.requires.0, ((let it : {k : Command} → c.args.k ≡ k → Has c.args.command.now k = λ e. run-has c.args.command.now (decode_of c.args.command.now) _ (c.requires.1 ∙ ap Run e) (read-in c.args.command.now) in it) c.in-Load.is).line)
 
--- UNCONVERTED run-start-requires -> run_start-requires
+pub run_start-requires : goal.run_start-requires
+unfolding length_of
+run_start-requires c =
+    let h = (let it : {k : Command} → c.args.k ≡ k → Has c.args.command.now k = λ e. run-has c.args.command.now (decode_of c.args.command.now) _ (c.requires.1 ∙ ap Run e) (read-in c.args.command.now) in it) c.in-Start.is in record { sound = (c.requires.0, h.line); start_length_in_bounds = h.whole }
 
 pub returns-in-Tray : goal.returns-in-Tray
 returns-in-Tray c =

@@ -10,5 +10,5 @@ use Rattle.card_state.proofs.put_register.Goals as goal
 
 pub returns : goal.returns
 returns c =
-    let n : length c.args.t1 ≡ 16 = search rules in
-    c.put_words.ensures ∙ ap (λ (l : List ℕ). (l ++ (c.args.x ∷ c.args.y ∷ [])) ++ drop 18 c.args.w.now) (sym (listed 16 c.args.t1 n))
+    let n : length c.args.a ≡ 16 = search rules in
+    c.put_words.ensures ∙ ap (λ (l : List ℕ). (l ++ (c.args.x ∷ c.args.y ∷ [])) ++ drop 18 c.args.w.now) (sym (listed 16 c.args.a n))

@@ -8,7 +8,7 @@ use Rattle.decim_register.proofs.move_in.Goals as goal
 
 pub returns : goal.returns
 returns c =
-    rw (c.up-5.ensures, c.up-4.ensures, c.up-3.ensures, c.up-2.ensures, c.up.ensures) (sym (moved c.args.t1 c.args.r))
+    rw (c.up-5.ensures, c.up-4.ensures, c.up-3.ensures, c.up-2.ensures, c.up.ensures) (sym (moved c.args.a c.args.r))
 
 pub bounds-a-1 : goal.bounds-a-1
 bounds-a-1 c = lit< tt

@@ -19,7 +19,7 @@ whole {n} {at} {text} {out₀} {out} {s} {cur} few e d =
     subst (λ (k : ℕ). PartCrypted gen k s (length text) text out₀ cur out) z (subst (λ (k : ℕ). PartCrypted gen 0 s k text out₀ cur out) e d)
 
 pub put-requires : goal.put-requires
-put-requires c =record { t_value = c.absg-t.ensures; at_in_bounds = (omega (arith, c.loop-at-test.true), omega (arith, c.loop-at-test.true, c.requires.1, c.loop-at.invariant.same_length)) }
+put-requires c = record { t_value = c.absg-t.ensures; at_in_bounds = (omega (arith, c.loop-at-test.true), omega (arith, c.loop-at-test.true, c.requires.1, c.loop-at.invariant.same_length)) }
 
 pub loop-at-preserved : goal.loop-at-preserved
 unfolding gen

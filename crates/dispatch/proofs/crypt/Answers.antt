@@ -28,3 +28,39 @@ returns-in-Kcipher2 c = gives c.args.skip c.args.text.now c.args.out.now c.args.
 pub returns-in-Mugi : goal.returns-in-Mugi
 unfolding cipher_at zuc rabbit snow128 snow256 kcipher2 mugi
 returns-in-Mugi c = gives c.args.skip c.args.text.now c.args.out.now c.args.w.now _ _ c.in-Mugi.is c.xor_text-in-Mugi.ensures
+
+pub xor_text-requires : goal.xor_text-requires
+unfolding cipher_at zuc rabbit snow128 snow256 kcipher2 mugi
+xor_text-requires c =
+    let q = asks c.args.w.now c.args.skip _ _ c.in-Zuc.is (c.requires.w_len, c.requires.skip_bound) in
+    record { w_len = q.0; skip_bound = q.1 }
+
+pub xor_text-requires-in-Rabbit : goal.xor_text-requires-in-Rabbit
+unfolding cipher_at zuc rabbit snow128 snow256 kcipher2 mugi
+xor_text-requires-in-Rabbit c =
+    let q = asks c.args.w.now c.args.skip _ _ c.in-Rabbit.is (c.requires.w_len, c.requires.skip_bound) in
+    record { w_len = q.0; skip_bound = q.1 }
+
+pub xor_text-requires-in-Snow128 : goal.xor_text-requires-in-Snow128
+unfolding cipher_at zuc rabbit snow128 snow256 kcipher2 mugi
+xor_text-requires-in-Snow128 c =
+    let q = asks c.args.w.now c.args.skip _ _ c.in-Snow128.is (c.requires.w_len, c.requires.skip_bound) in
+    record { w_len = q.0; skip_bound = q.1 }
+
+pub xor_text-requires-in-Snow256 : goal.xor_text-requires-in-Snow256
+unfolding cipher_at zuc rabbit snow128 snow256 kcipher2 mugi
+xor_text-requires-in-Snow256 c =
+    let q = asks c.args.w.now c.args.skip _ _ c.in-Snow256.is (c.requires.w_len, c.requires.skip_bound) in
+    record { w_len = q.0; skip_bound = q.1 }
+
+pub xor_text-requires-in-Kcipher2 : goal.xor_text-requires-in-Kcipher2
+unfolding cipher_at zuc rabbit snow128 snow256 kcipher2 mugi
+xor_text-requires-in-Kcipher2 c =
+    let q = asks c.args.w.now c.args.skip _ _ c.in-Kcipher2.is (c.requires.w_len, c.requires.skip_bound) in
+    record { w_len = q.0; skip_bound = q.1 }
+
+pub xor_text-requires-in-Mugi : goal.xor_text-requires-in-Mugi
+unfolding cipher_at zuc rabbit snow128 snow256 kcipher2 mugi
+xor_text-requires-in-Mugi c =
+    let q = asks c.args.w.now c.args.skip _ _ c.in-Mugi.is (c.requires.w_len, c.requires.skip_bound) in
+    record { w_len = q.0; skip_bound = q.1 }

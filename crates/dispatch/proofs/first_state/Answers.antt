@@ -15,7 +15,7 @@ pub slice_bounds-open-end : goal.slice_bounds-open-end
 slice_bounds-open-end c = sym (length-take-le _ c.args.iv.now ((let it : c.iv_of-v.result ≤ length c.args.iv.now = let f = iv-fits (number_of c.args.c) in omega (arith, c.iv_of-v.ensures, c.requires.iv_len, f) in it)))
 
 pub open-requires : goal.open-requires
-open-requires c =record { key_len = c.requires.key_len; iv_len = length-take-le _ c.args.iv.now ((let it : c.iv_of-v.result ≤ length c.args.iv.now = let f = iv-fits (number_of c.args.c) in omega (arith, c.iv_of-v.ensures, c.requires.iv_len, f) in it)) ∙ c.iv_of-v.ensures }
+open-requires c = record { key_len = c.requires.key_len; iv_len = length-take-le _ c.args.iv.now ((let it : c.iv_of-v.result ≤ length c.args.iv.now = let f = iv-fits (number_of c.args.c) in omega (arith, c.iv_of-v.ensures, c.requires.iv_len, f) in it)) ∙ c.iv_of-v.ensures }
 
 pub returns : goal.returns
 returns c =

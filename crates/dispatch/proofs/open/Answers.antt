@@ -28,3 +28,39 @@ returns-in-Kcipher2 c = given c.args.key.now c.args.iv.now c.in-Kcipher2.is c.op
 pub returns-in-Mugi : goal.returns-in-Mugi
 unfolding cipher_at zuc rabbit snow128 snow256 kcipher2 mugi
 returns-in-Mugi c = given c.args.key.now c.args.iv.now c.in-Mugi.is c.open-in-Mugi.ensures
+
+pub open-requires : goal.open-requires
+unfolding cipher_at zuc rabbit snow128 snow256 kcipher2 mugi
+open-requires c =
+    let q = asked _ _ c.in-Zuc.is (c.requires.key_len, c.requires.iv_len) in
+    record { key_len = q.0; iv_len = q.1 }
+
+pub open-requires-in-Rabbit : goal.open-requires-in-Rabbit
+unfolding cipher_at zuc rabbit snow128 snow256 kcipher2 mugi
+open-requires-in-Rabbit c =
+    let q = asked _ _ c.in-Rabbit.is (c.requires.key_len, c.requires.iv_len) in
+    record { key_len = q.0; iv_len = q.1 }
+
+pub open128-requires : goal.open128-requires
+unfolding cipher_at zuc rabbit snow128 snow256 kcipher2 mugi
+open128-requires c =
+    let q = asked _ _ c.in-Snow128.is (c.requires.key_len, c.requires.iv_len) in
+    record { key_len = q.0; iv_len = q.1 }
+
+pub open256-requires : goal.open256-requires
+unfolding cipher_at zuc rabbit snow128 snow256 kcipher2 mugi
+open256-requires c =
+    let q = asked _ _ c.in-Snow256.is (c.requires.key_len, c.requires.iv_len) in
+    record { key_len = q.0; iv_len = q.1 }
+
+pub open-requires-in-Kcipher2 : goal.open-requires-in-Kcipher2
+unfolding cipher_at zuc rabbit snow128 snow256 kcipher2 mugi
+open-requires-in-Kcipher2 c =
+    let q = asked _ _ c.in-Kcipher2.is (c.requires.key_len, c.requires.iv_len) in
+    record { key_len = q.0; iv_len = q.1 }
+
+pub open-requires-in-Mugi : goal.open-requires-in-Mugi
+unfolding cipher_at zuc rabbit snow128 snow256 kcipher2 mugi
+open-requires-in-Mugi c =
+    let q = asked _ _ c.in-Mugi.is (c.requires.key_len, c.requires.iv_len) in
+    record { key_len = q.0; iv_len = q.1 }

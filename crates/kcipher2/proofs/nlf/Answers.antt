@@ -4,4 +4,4 @@ use Rattle.std.proofs.Common.{rules}
 use Rattle.kcipher2.proofs.nlf.Goals as goal
 
 pub returns : goal.returns
-returns c = rw c.wrapping_add_u32.ensures
+returns c = rw c.wrapping_add_u32.ensures.value

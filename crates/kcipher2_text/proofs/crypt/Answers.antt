@@ -22,7 +22,7 @@ room {a = a} {text = text} {out} {o1} h q d =
 
 pub begun-cur-requires : goal.begun-cur-requires
 begun-cur-requires c =
-    (search rules, ((omega (arith, c.requires.0), omega (arith, c.requires.0, c.least-head.ensures)), (omega (arith, c.least-head.ensures), omega (arith, c.least-head.ensures, c.requires.1))))
+    record { lent = search rules; from_bound = (omega (arith, c.requires.0), omega (arith, c.requires.0, c.least-head.ensures)); used_in_bounds = (omega (arith, c.least-head.ensures), omega (arith, c.least-head.ensures, c.requires.1)) }
 
 pub slice_bounds-pairs-count-2 : goal.slice_bounds-pairs-count-2
 unfolding gen
@@ -30,11 +30,15 @@ slice_bounds-pairs-count-2 c =
     let l = did-length gen (omega arith) (omega (arith, c.least-head.ensures)) (omega (arith, c.least-head.ensures, c.requires.1)) c.begun-cur.ensures in
     omega (arith, l, c.least-head.ensures, c.requires.1)
 
--- UNCONVERTED part-pairs-start-2 -> slice_bounds-pairs-start-2
+pub slice_bounds-pairs-start-2 : goal.slice_bounds-pairs-start-2
+unfolding gen
+slice_bounds-pairs-start-2 c =
+    let l = did-length gen (omega arith) (omega (arith, c.least-head.ensures)) (omega (arith, c.least-head.ensures, c.requires.1)) c.begun-cur.ensures in
+    omega (arith, l, c.least-head.ensures, c.requires.1)
 
 pub pairs-requires : goal.pairs-requires
 unfolding gen
-pairs-requires c =record { lent = search rules; text_in_bounds = room (omega (arith, c.least-head.ensures)) c.requires.1 c.begun-cur.ensures }
+pairs-requires c = record { lent = search rules; text_in_bounds = room (omega (arith, c.least-head.ensures)) c.requires.1 c.begun-cur.ensures }
 
 pub returns : goal.returns
 unfolding gen

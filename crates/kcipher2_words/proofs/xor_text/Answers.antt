@@ -13,5 +13,5 @@ use Rattle.kcipher2_words.proofs.xor_text.Goals as goal
 pub returns : goal.returns
 unfolding kcipher2 gen
 returns c =
-    row-along kcipher2_face InRange kcipher2-laws c.args.skip c.args.text.now c.args.out.now (lent-fit c.args.w.now (λ i. (c.type_inv.w i).fits) c.requires.w_len.0 c.requires.w_len.1) c.load.ensures
+    row-along kcipher2_face InRange kcipher2-laws c.args.skip c.args.text.now c.args.out.now (lent-fit c.args.w.now (λ i. (c.slice_known-1.given i).fits) c.requires.w_len.0 c.requires.w_len.1) c.load.ensures
     (c.store.ensures ∙ padded 20 (own c.crypt-after.result) c.args.w.now c.requires.w_len.0 c.requires.w_len.1 ∙ with-zeros c.crypt-after.result) c.crypt-after.ensures

@@ -11,5 +11,5 @@ use Rattle.mugi_words.proofs.xor_text.Goals as goal
 pub returns : goal.returns
 unfolding mugi gen
 returns c =
-    row-along mugi_face InRange mugi-laws c.args.skip c.args.text.now c.args.out.now (lent-fit c.args.w.now (λ i. (c.type_inv.w i).fits) c.requires.w_len.0 c.requires.w_len.1) c.load.ensures
+    row-along mugi_face InRange mugi-laws c.args.skip c.args.text.now c.args.out.now (lent-fit c.args.w.now (λ i. (c.slice_known-1.given i).fits) c.requires.w_len.0 c.requires.w_len.1) c.load.ensures
     c.store.ensures c.crypt-after.ensures

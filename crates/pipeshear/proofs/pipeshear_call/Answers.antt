@@ -19,4 +19,4 @@ returns-then-card-ne-CARD c =
 
 pub returns : goal.returns
 returns c =
-    ran c.args.card.now ((call_of c.args.command.now c.args.tray.now c.args.«data».now c.args.out.now)) c.args.counts.now ((let it : CallBytes ((call_of c.args.command.now c.args.tray.now c.args.«data».now c.args.out.now)) = record { command = all_known Byte ((call_of c.args.command.now c.args.tray.now c.args.«data».now c.args.out.now)).command (λ i. (c.type_inv.command i).fits); tray = all_known Byte ((call_of c.args.command.now c.args.tray.now c.args.«data».now c.args.out.now)).tray (λ i. (c.type_inv.tray i).fits); } in it)) c.if-counts-ne3.left c.if-card-ne-CARD.left c.run-r.ensures c.run-r.kept.0 c.put_counts-2.ensures
+    ran c.args.card.now ((call_of c.args.command.now c.args.tray.now c.args.«data».now c.args.out.now)) c.args.counts.now ((let it : CallBytes ((call_of c.args.command.now c.args.tray.now c.args.«data».now c.args.out.now)) = record { command = all_known Byte ((call_of c.args.command.now c.args.tray.now c.args.«data».now c.args.out.now)).command (λ i. (c.type_inv.command i).fits); tray = all_known Byte ((call_of c.args.command.now c.args.tray.now c.args.«data».now c.args.out.now)).tray (λ i. (c.type_inv.tray i).fits); } in it)) c.if-counts-ne3.false c.if-card-ne-CARD.false c.run-r.ensures c.run-r.kept.0 c.put_counts-2.ensures

@@ -8,6 +8,16 @@ use Rattle.rabbit.specs.Cipher.{counted, counter_at, carry_at}
 use Rattle.rabbit.specs.declared.Counted.{Counted}
 use Rattle.rabbit.proofs.count.Goals as goal
 
+-- one counter more
+module _ (c : List ℕ) (b i temp : ℕ) (t : temp ≡ get_or c i 0 + get_or a_list i 0 + carry_at c b i) where
+  counter-more : {next : List ℕ} → i < length c → next ≡ tab i (counter_at c b) ++ drop i c
+      → set next i (temp % 2 ^ 32) ≡ tab (i + 1) (counter_at c b) ++ drop (i + 1) c
+  counter-more h n = rw (n, t) (fill i (counter_at c b) c h)
+
+  carry-more : temp / 2 ^ 32 ≡ carry_at c b (i + 1)
+  unfolding carry_at
+  carry-more = rw (add-one, t)
+
 -- all of them
 finished : (c next : List ℕ) (b carry i : ℕ) → i ≡ 8 → length c ≡ 8 → next ≡ tab i (counter_at c b) ++ drop i c → carry ≡ carry_at c b i
     → ◌≡◌ {A = Counted} (record { c = next; b = carry }) (counted c b)
@@ -24,16 +34,16 @@ loop-i-init c = (search rules, refl, refl)
 
 pub loop-i-preserved : goal.loop-i-preserved
 loop-i-preserved c =
-    let t : c.sum-temp.result ≡ get_or c.args.t1 c.loop-i.i 0 + get_or a_list c.loop-i.i 0 + carry_at c.args.t1 c.args.b c.loop-i.i =
+    let t : c.sum-temp.result ≡ get_or c.args.c c.loop-i.i 0 + get_or a_list c.loop-i.i 0 + carry_at c.args.c c.args.b c.loop-i.i =
     c.sum-temp.ensures.0 ∙ rw (c.a-a.ensures, c.loop-i.invariant.2) in (
       omega arith,
-      counter-more c.args.t1 c.args.b c.loop-i.i c.sum-temp.result t (search rules) c.loop-i.invariant.1,
-      carry-more c.args.t1 c.args.b c.loop-i.i c.sum-temp.result t,
+      counter-more c.args.c c.args.b c.loop-i.i c.sum-temp.result t (search rules) c.loop-i.invariant.1,
+      carry-more c.args.c c.args.b c.loop-i.i c.sum-temp.result t,
     )
 
 pub returns : goal.returns
 returns c =
-    finished c.args.t1 c.loop-i.next c.args.b c.loop-i.carry c.loop-i.i (omega arith) (search rules) c.loop-i.invariant.1 c.loop-i.invariant.2
+    finished c.args.c c.loop-i.next c.args.b c.loop-i.carry c.loop-i.i (omega arith) (search rules) c.loop-i.invariant.1 c.loop-i.invariant.2
 
 pub bounds-c-i : goal.bounds-c-i
 bounds-c-i c = c.loop-i-test.true

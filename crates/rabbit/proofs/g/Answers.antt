@@ -17,4 +17,4 @@ overflow_cast-result-2 c =
 
 pub returns : goal.returns
 unfolding g
-returns c = ap (λ (t : ℕ). folded (t * t)) c.wrapping_add_u32-t.ensures
+returns c = ap (λ (t : ℕ). folded (t * t)) c.wrapping_add_u32-t.ensures.value

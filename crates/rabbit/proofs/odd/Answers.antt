@@ -4,4 +4,4 @@ use Rattle.std.proofs.Common.{rules}
 use Rattle.rabbit.proofs.odd.Goals as goal
 
 pub returns : goal.returns
-returns c = rw (c.wrapping_add_u32-2.ensures, c.wrapping_add_u32.ensures, c.rotl8.ensures)
+returns c = rw (c.wrapping_add_u32-2.ensures.value, c.wrapping_add_u32.ensures.value, c.rotl8.ensures)

@@ -21,7 +21,7 @@ pub begun-requires : goal.begun-requires
 begun-requires c =
     let s = tail-length c.loop-at.at c.args.text.now in
     let o = tail-length c.loop-at.at c.loop-at.out in
-    ((omega arith, omega (arith, c.loop-at-test.false)), (omega (arith, s), omega (arith, o, c.requires, c.loop-at.invariant.same_length)))
+    record { from_bound = (omega arith, omega (arith, c.loop-at-test.false)); used_in_bounds = (omega (arith, s), omega (arith, o, c.requires, c.loop-at.invariant.same_length)) }
 
 pub returns : goal.returns
 unfolding gen

@@ -21,10 +21,10 @@ pub store-requires : goal.store-requires
 unfolding rabbit gen
 store-requires c =
     let n : length c.args.w.now ≡ state_words = c.requires.w_len.0 in
-    (search rules, carry-after c.args.skip c.args.text.now c.args.out.now (lent-fit c.args.w.now (λ i. (c.type_inv.w i).fits) n c.requires.w_len.1) c.load.ensures c.crypt-after.ensures)
+    (search rules, carry-after c.args.skip c.args.text.now c.args.out.now (lent-fit c.args.w.now (λ i. (c.slice_known-1.given i).fits) n c.requires.w_len.1) c.load.ensures c.crypt-after.ensures)
 
 pub returns : goal.returns
 unfolding rabbit gen
 returns c =
-    row-along rabbit_face InRange rabbit-laws c.args.skip c.args.text.now c.args.out.now (lent-fit c.args.w.now (λ i. (c.type_inv.w i).fits) c.requires.w_len.0 c.requires.w_len.1) c.load.ensures
+    row-along rabbit_face InRange rabbit-laws c.args.skip c.args.text.now c.args.out.now (lent-fit c.args.w.now (λ i. (c.slice_known-1.given i).fits) c.requires.w_len.0 c.requires.w_len.1) c.load.ensures
     (c.store.ensures ∙ padded 17 (own c.crypt-after.result) c.args.w.now c.requires.w_len.0 (both_right (pick (eqb (get_or c.args.w.now 16 0) 0) true (eqb (get_or c.args.w.now 16 0) (2 ^ 24))) (zeros_from 17 c.args.w.now) c.requires.w_len.1) ∙ with-zeros c.crypt-after.result) c.crypt-after.ensures

@@ -22,7 +22,7 @@ loop-left-preserved c =
     putting-more c.loop-left.invariant c.loop-left-test.true c.sum-n.ensures c.put_figure-end.ensures
 
 pub returns : goal.returns
-returns c =record { behind = putting-all c.loop-left.invariant c.loop-left-test.false; upper_bound = omega arith }
+returns c = record { behind = putting-all c.loop-left.invariant c.loop-left-test.false; upper_bound = omega arith }
 
 pub loop-left-init : goal.loop-left-init
 loop-left-init c = putting-none c.requires.count_in_bounds

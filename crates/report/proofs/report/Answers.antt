@@ -22,5 +22,5 @@ put_figures-ciphers-requires c = ((search rules, search rules), ((let it : sum_o
 
 pub returns : goal.returns
 returns c =
-    leaves-sheet c.args.s.now c.sheet_code-code.ensures c.if-code-ne0.left (c.total-all.ensures.sum_is (c.total-all.ensures.over-is ∙ lt-leb (2 ^ 64) (sum_of every (uses c.args.s.now)) ((let it : sum_of every (uses c.args.s.now) < 2 ^ 64 = total-fits c.args.s.now (sym c.sheet_code-code.ensures ∙ c.if-code-ne0.false) in it))))
+    leaves-sheet c.args.s.now c.sheet_code-code.ensures c.if-code-ne0.false (c.total-all.ensures.sum_is (c.total-all.ensures.over-is ∙ lt-leb (2 ^ 64) (sum_of every (uses c.args.s.now)) ((let it : sum_of every (uses c.args.s.now) < 2 ^ 64 = total-fits c.args.s.now (sym c.sheet_code-code.ensures ∙ c.if-code-ne0.false) in it))))
     c.put_figures-lines.ensures.behind c.put_figures-ciphers.ensures.behind c.put_figure-written-2.ensures

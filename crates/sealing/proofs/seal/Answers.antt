@@ -13,7 +13,7 @@ use Rattle.sealing.proofs.seal.Goals as goal
 pub seal_with-requires : goal.seal_with-requires
 seal_with-requires c =
     let f = (let it : Fitting (message_ok (length c.args.message.now)) c.args.cipher c.args.key.now c.args.iv.now (length c.args.message.now + 16) (length c.args.out.now) = check-passed _ _ _ _ _ _ ((let it : (seal_check c.args.cipher c.args.key.now c.args.iv.now c.args.message.now (length c.args.out.now) ≡ 0) × (c.args.cipher ≡ number_of c.in-Run.c) = admitted-run c.args.cipher c.args.key.now c.args.iv.now (length c.args.out.now) c.message_ok.ensures refl c.admit.ensures c.in-Run.is in it)).0 in it) in
-    ((search rules, search rules), record { redundancy = search rules; most = message-most _ f.size; whole = message-whole _ f.size; fits = f.room_for })
+    record { key_len = (search rules, search rules); sized = record { redundancy = search rules; most = message-most _ f.size; whole = message-whole _ f.size; fits = f.room_for } }
 
 pub returns-in-Run : goal.returns-in-Run
 returns-in-Run c =

@@ -24,13 +24,13 @@ returns-then-t-eq-TRIES c =
     (answered-refused c.refused.ensures)
 
 pub sums-requires : goal.sums-requires
-sums-requires c =record { fit = c.first-found.ensures.fit; t_bound = (found_below ((blocks_from (number_of c.args.c) c.start-w.result)) _ c.first-found.ensures.found.index c.if-t-eq-TRIES.false, c.requires.sized) }
+sums-requires c = record { fit = c.first-found.ensures.fit; t_bound = (found_below ((blocks_from (number_of c.args.c) c.start-w.result)) _ c.first-found.ensures.found.index c.if-t-eq-TRIES.false, c.requires.sized) }
 
 pub returns : goal.returns
 returns c =
     let q = found_below ((blocks_from (number_of c.args.c) c.start-w.result)) c.first-found.result.t c.first-found.ensures.found.index c.if-t-eq-TRIES.false in
-    let d = chained-sealed (number_of c.args.c) c.first-found.result.t c.start-w.result c.args.redundancy.now c.args.message.now (all-by c.args.message.now (λ c.first-found.ensures.found _. (c.type_inv.message c.first-found.ensures.found).fits))
-    c.requires.sized.whole (all-by c.args.redundancy.now (λ c.first-found.ensures.found _. (c.type_inv.redundancy c.first-found.ensures.found).fits)) c.args.out.now (c.first-found.ensures.found.block q) refl (c.sums.ensures _ (c.first-found.ensures.found.stands q)).bytes c.chain.ensures in
+    let d = chained-sealed (number_of c.args.c) c.first-found.result.t c.start-w.result c.args.redundancy.now c.args.message.now (all-by c.args.message.now (λ i _. (c.type_inv.message i).fits))
+    c.requires.sized.whole (all-by c.args.redundancy.now (λ i _. (c.type_inv.redundancy i).fits)) c.args.out.now (c.first-found.ensures.found.block q) refl (c.sums.ensures _ (c.first-found.ensures.found.stands q)).bytes c.chain.ensures in
     answered-by
     (ap (λ (z : ℕ → ℕ). seal_by z c.args.redundancy.now c.args.message.now) ((let it : key_blocks (number_of c.args.c) c.args.key.now c.args.iv.now ≡ (blocks_from (number_of c.args.c) c.start-w.result) = ap (blocks_from (number_of c.args.c)) (sym c.start-w.ensures.is) in it)) ∙ seal-some ((blocks_from (number_of c.args.c) c.start-w.result)) c.first-found.result.t c.first-found.ensures.found.index c.args.redundancy.now c.args.message.now c.if-t-eq-TRIES.false)
     (record {

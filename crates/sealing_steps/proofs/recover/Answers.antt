@@ -10,4 +10,15 @@ use Rattle.sealing_steps.proofs.Wholes.{at_same, recovered-put}
 use borrow.Author.Rules.{rules}
 use Rattle.sealing_steps.proofs.recover.Goals as goal
 
--- UNCONVERTED returns -> returns
+pub returns : goal.returns
+returns c =
+    let n : 8 * (c.args.t + 1) + length c.args.sealed.now ≡ 8 * (c.args.t + 1 + length c.args.sealed.now / 8) = omega (arith, c.requires.t_bound.1.whole) in
+    λ s h.
+    let d = c.crypt_on.ensures.crypted s h in
+    let e = c.next_block-z.ensures.read s (at_same n d.stands) in
+    record {
+      behind = e.block;
+      bytes =
+          recovered-put (number_of c.args.c) c.args.t s c.args.a c.args.sealed.now c.args.held.now (all-by c.args.sealed.now (λ i _. (c.type_inv.sealed i).ranges)) c.requires.t_bound.1.whole refl c.inverse-inverse.ensures d
+          c.unchain.ensures;
+    }

@@ -21,7 +21,7 @@ pub slice_bounds-first_state-end : goal.slice_bounds-first_state-end
 slice_bounds-first_state-end c = sym (length-take-le _ c.args.key.now ((let it : c.key_of-k.result ≤ length c.args.key.now = let f = key_fits (number_of c.args.c) in omega (arith, c.key_of-k.ensures, c.requires.0, f) in it)))
 
 pub first_state-requires : goal.first_state-requires
-first_state-requires c =record { key_len = length-take-le _ c.args.key.now ((let it : c.key_of-k.result ≤ length c.args.key.now = let f = key_fits (number_of c.args.c) in omega (arith, c.key_of-k.ensures, c.requires.0, f) in it)) ∙ c.key_of-k.ensures; iv_len = c.requires.1 }
+first_state-requires c = record { key_len = length-take-le _ c.args.key.now ((let it : c.key_of-k.result ≤ length c.args.key.now = let f = key_fits (number_of c.args.c) in omega (arith, c.key_of-k.ensures, c.requires.0, f) in it)) ∙ c.key_of-k.ensures; iv_len = c.requires.1 }
 
 pub returns : goal.returns
 returns c =

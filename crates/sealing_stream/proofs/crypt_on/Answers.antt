@@ -10,7 +10,7 @@ pub nonzero_rem-skip : goal.nonzero_rem-skip
 nonzero_rem-skip c = unit-up (number_of c.args.c) _ c.unit_of-unit.ensures
 
 pub crypt-requires : goal.crypt-requires
-crypt-requires c =record { w_len = (c.requires.fit.full, c.requires.fit.admitted); skip_bound = (place-within (number_of c.args.c) c.args.n _ c.unit_of-unit.ensures, c.requires.text_in_bounds) }
+crypt-requires c = record { w_len = (c.requires.fit.full, c.requires.fit.admitted); skip_bound = (place-within (number_of c.args.c) c.args.n _ c.unit_of-unit.ensures, c.requires.text_in_bounds) }
 
 pub returns : goal.returns
 returns c =

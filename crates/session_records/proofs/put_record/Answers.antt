@@ -21,8 +21,8 @@ pub bounds-command-1 : goal.bounds-command-1
 bounds-command-1 c = let h = (let it : 2 ≤ length c.args.command.now = c.requires.named.long c.if-code-ne0.false in it) in omega arith
 
 pub cipher_at-cipher-requires : goal.cipher_at-cipher-requires
-cipher_at-cipher-requires c = (search rules, c.requires.named.line c.if-code-ne0.left)
+cipher_at-cipher-requires c = (search rules, c.requires.named.line c.if-code-ne0.false)
 
 pub returns : goal.returns
 returns c =
-    put-crypt _ _ _ _ c.if-code-ne0.left c.if-command-ne3.left c.cipher_at-cipher.ensures c.put.ensures
+    put-crypt _ _ _ _ c.if-code-ne0.false c.if-command-ne3.false c.cipher_at-cipher.ensures c.put.ensures

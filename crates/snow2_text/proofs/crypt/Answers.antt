@@ -9,7 +9,7 @@ use Rattle.snow2_text.proofs.crypt.Goals as goal
 
 pub begun-cur-requires : goal.begun-cur-requires
 begun-cur-requires c =
-    (search rules, ((omega (arith, c.requires.0), omega (arith, c.requires.0, c.least-head.ensures)), (omega (arith, c.least-head.ensures), omega (arith, c.least-head.ensures, c.requires.1))))
+    record { lent = search rules; from_bound = (omega (arith, c.requires.0), omega (arith, c.requires.0, c.least-head.ensures)); used_in_bounds = (omega (arith, c.least-head.ensures), omega (arith, c.least-head.ensures, c.requires.1)) }
 
 pub returns : goal.returns
 unfolding gen

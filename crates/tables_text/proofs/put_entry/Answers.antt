@@ -11,4 +11,7 @@ pub returns : goal.returns
 returns c =
     behind-store c.args.end (digits-put c.args.width c.args.n c.args.at c.args.out.now _ c.requires c.fill.ensures) (omega arith)
 
--- UNCONVERTED same_length -> shape_of-out
+pub shape_of-out : goal.shape_of-out
+shape_of-out c =
+    behind-length
+    (behind-store c.args.end (digits-put c.args.width c.args.n c.args.at c.args.out.now _ c.requires c.fill.ensures) (omega arith))

@@ -17,7 +17,7 @@ loop-i-preserved c =
     putting-more c.loop-i.invariant c.loop-i-test.true (rw c.behind.ensures at c.put_entry-end.ensures)
 
 pub returns : goal.returns
-returns c =record { behind = putting-all c.loop-i.invariant c.loop-i-test.false; value = putting-end c.loop-i.invariant c.loop-i-test.false }
+returns c = record { behind = putting-all c.loop-i.invariant c.loop-i-test.false; value = putting-end c.loop-i.invariant c.loop-i-test.false }
 
 pub shape_of-out : goal.shape_of-out
 shape_of-out c = putting-same c.loop-i.invariant

@@ -23,4 +23,7 @@ pub returns : goal.returns
 returns c =
     behind-store c.args.end (rw (decimal-text c.args.n _ _ (search rules) c.decimal-k.ensures.len c.decimal-k.ensures.digits) at c.put-last.ensures) ((let it : c.put-last.result < length c.args.out.now = let h = (let it : c.decimal-k.result ≤ 20 = places c.args.n c.decimal-k.result (search rules) c.decimal-k.ensures.len in it) in omega arith in it))
 
--- UNCONVERTED same_length -> shape_of-out
+pub shape_of-out : goal.shape_of-out
+shape_of-out c =
+    behind-length
+    (behind-store c.args.end (rw (decimal-text c.args.n _ _ (search rules) c.decimal-k.ensures.len c.decimal-k.ensures.digits) at c.put-last.ensures) ((let it : c.put-last.result < length c.args.out.now = let h = (let it : c.decimal-k.result ≤ 20 = places c.args.n c.decimal-k.result (search rules) c.decimal-k.ensures.len in it) in omega arith in it)))

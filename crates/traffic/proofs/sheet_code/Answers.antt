@@ -17,8 +17,8 @@ returns-then-any_unknown c =
 
 pub returns-then-all : goal.returns-then-all
 returns-then-all c =
-    code-over c.args.s.now c.if-n-ne0.left c.if-n-gt-MOST.left (sym c.any_unknown.ensures ∙ c.if-any_unknown.false) (sym c.total-all.ensures.over-is ∙ c.if-all.true)
+    code-over c.args.s.now c.if-n-ne0.false c.if-n-gt-MOST.false (sym c.any_unknown.ensures ∙ c.if-any_unknown.false) (sym c.total-all.ensures.over-is ∙ c.if-all.true)
 
 pub returns : goal.returns
 returns c =
-    code-none c.args.s.now c.if-n-ne0.left c.if-n-gt-MOST.left (sym c.any_unknown.ensures ∙ c.if-any_unknown.false) (sym c.total-all.ensures.over-is ∙ c.if-all.false)
+    code-none c.args.s.now c.if-n-ne0.false c.if-n-gt-MOST.false (sym c.any_unknown.ensures ∙ c.if-any_unknown.false) (sym c.total-all.ensures.over-is ∙ c.if-all.false)

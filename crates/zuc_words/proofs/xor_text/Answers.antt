@@ -16,5 +16,5 @@ use Rattle.zuc_words.proofs.xor_text.Goals as goal
 pub returns : goal.returns
 unfolding zuc gen zuc_words
 returns c =
-    row-along zuc_face InRange zuc-laws c.args.skip c.args.text.now c.args.out.now (lent-fit c.args.w.now (λ i. (c.type_inv.w i).fits) c.requires.w_len.0 c.requires.w_len.1) c.load.ensures
+    row-along zuc_face InRange zuc-laws c.args.skip c.args.text.now c.args.out.now (lent-fit c.args.w.now (λ i. (c.slice_known-1.given i).fits) c.requires.w_len.0 c.requires.w_len.1) c.load.ensures
     (c.store.ensures ∙ padded 18 (c.crypt-after.result.a ++ (c.crypt-after.result.r1 ∷ c.crypt-after.result.r2 ∷ [])) c.args.w.now c.requires.w_len.0 (both_right (are_cells (take 16 c.args.w.now)) (zeros_from 18 c.args.w.now) c.requires.w_len.1) ∙ append_assoc c.crypt-after.result.a (c.crypt-after.result.r1 ∷ c.crypt-after.result.r2 ∷ []) (replicate 20 0)) c.crypt-after.ensures

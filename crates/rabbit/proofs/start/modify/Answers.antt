@@ -5,11 +5,8 @@ use Rattle.words.specs.Word.{◌⊕◌}
 use Rattle.words.specs.Lists.{tab}
 use Rattle.words.proofs.Registers.{fill}
 use Rattle.rabbit.specs.Cipher.{at8, modified}
+use Rattle.rabbit.proofs.start.modify.Invariants.{modified_at}
 use Rattle.rabbit.proofs.start.modify.Goals as goal
-
--- counter j after step 4
-abbrev modified_at : (x c v : List ℕ) → ℕ → ℕ
-modified_at x c v j = get_or c j 0 ⊕ at8 x (j + 4) ⊕ get_or v (j % 4) 0
 
 finished : (x c v next : List ℕ) (i : ℕ) → i ≡ 8 → length c ≡ 8 → next ≡ tab i (modified_at x c v) ++ drop i c → next ≡ modified x c v
 unfolding modified
@@ -20,8 +17,8 @@ loop-i-init c = (omega arith, refl)
 
 pub loop-i-preserved : goal.loop-i-preserved
 loop-i-preserved c =
-    (omega arith, rw c.loop-i.invariant.1 (fill c.loop-i.i (modified_at c.args.t1 c.args.t2 c.args.t3) c.args.t2 (search rules)))
+    (omega arith, rw c.loop-i.invariant.1 (fill c.loop-i.i (modified_at c.args.x c.args.c c.args.v) c.args.c (search rules)))
 
 pub returns : goal.returns
 returns c =
-    finished c.args.t1 c.args.t2 c.args.t3 c.loop-i.next c.loop-i.i (omega arith) (search rules) c.loop-i.invariant.1
+    finished c.args.x c.args.c c.args.v c.loop-i.next c.loop-i.i (omega arith) (search rules) c.loop-i.invariant.1

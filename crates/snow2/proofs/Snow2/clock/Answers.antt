@@ -6,4 +6,4 @@ use Rattle.snow2.proofs.Snow2.clock.Goals as goal
 
 pub returns : goal.returns
 unfolding clocked
-returns c = rw (c.sub_word.ensures, c.wrapping_add_u32.ensures, c.shift16-moved.ensures)
+returns c = rw (c.sub_word.ensures, c.wrapping_add_u32.ensures.value, c.shift16-moved.ensures)

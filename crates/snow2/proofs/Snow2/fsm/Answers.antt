@@ -6,4 +6,4 @@ use Rattle.snow2.proofs.Snow2.fsm.Goals as goal
 
 pub returns : goal.returns
 unfolding f
-returns c = rw c.wrapping_add_u32.ensures
+returns c = rw c.wrapping_add_u32.ensures.value

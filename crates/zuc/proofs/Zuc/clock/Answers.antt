@@ -7,7 +7,7 @@ use Rattle.zuc.proofs.Zuc.clock.Goals as goal
 pub returns : goal.returns
 unfolding clocked
 returns c =
-    rw (c.next_r2.ensures, c.next_r1.ensures, c.shift16-b.ensures, c.low_high-2.ensures, c.wrapping_add_u32-w1.ensures, c.low_high.ensures)
+    rw (c.next_r2.ensures, c.next_r1.ensures, c.shift16-b.ensures, c.low_high-2.ensures, c.wrapping_add_u32-w1.ensures.value, c.low_high.ensures)
 
 pub bounds-a-11 : goal.bounds-a-11
 bounds-a-11 c = lit< tt

@@ -6,4 +6,4 @@ use Rattle.zuc.proofs.Zuc.word.Goals as goal
 
 pub returns : goal.returns
 unfolding w
-returns c = rw (c.wrapping_add_u32.ensures, c.high_low.ensures)
+returns c = rw (c.wrapping_add_u32.ensures.value, c.high_low.ensures)
