@@ -3,47 +3,46 @@
 // empty. Where a file cannot be read, or out.bin or use.bin cannot be written, it says so on standard error and prints no table.
 #![tactic(auto)]
 
-use libc::STDOUT_FILENO;
-use session::{READ, RECORDS, TABLE};
+use session::{OUT, READ, RECORDS, TABLE};
 
 // Runs the commands, writes out.bin, appends to use.bin and prints the table.
-fn run<'a>(commands: &'a [u8], tray: &'a [u8], data: &[u8]) {
-    let mut out = io::large_buffer();
+fn run<'a>(rt: HostRuntime, commands: &'a [u8], tray: &'a [u8], data: &[u8]) {
+    let mut out = [0u8; OUT];
     let mut table = [0u8; TABLE];
     let mut records = [0u8; RECORDS];
     let ended = session::run(commands, tray, data, &mut out, &mut table, &mut records);
     let written = ended.written;
     let printed = ended.printed;
     let recorded = ended.recorded;
-    if !files::save(b"out.bin", b"cardrun: out.bin", &out[..written]) {
+    if !files::save(rt, b"out.bin", b"cardrun: out.bin", &out[..written]) {
         return;
     }
-    if !files::append(b"use.bin", b"cardrun: use.bin", &records[..recorded]) {
+    if !files::append(rt, b"use.bin", b"cardrun: use.bin", &records[..recorded]) {
         return;
     }
-    if !io::write_all(STDOUT_FILENO, &table[..printed]) {
-        os::fail(b"cardrun: standard output");
+    if let Err(e) = rt.write_all(&table[..printed]) {
+        let _ = eprintln!(rt; "cardrun: standard output: {e}");
     }
 }
 
-fn main() {
+fn main(rt: HostRuntime) {
     let mut commands = [0u8; READ];
     let mut tray = [0u8; READ];
     let mut data = [0u8; READ];
-    let c = files::read(b"cmd.bin", b"cardrun: cmd.bin", &mut commands);
+    let c = files::read(rt, b"cmd.bin", b"cardrun: cmd.bin", &mut commands);
     if c < 0 {
         return;
     }
-    let t = files::read(b"tray.bin", b"cardrun: tray.bin", &mut tray);
+    let t = files::read(rt, b"tray.bin", b"cardrun: tray.bin", &mut tray);
     if t < 0 {
         return;
     }
-    let d = files::read(b"data.bin", b"cardrun: data.bin", &mut data);
+    let d = files::read(rt, b"data.bin", b"cardrun: data.bin", &mut data);
     if d < 0 {
         return;
     }
-    let c = io::count(c, &commands);
-    let t = io::count(t, &tray);
-    let d = io::count(d, &data);
-    run(&commands[..c], &tray[..t], &data[..d]);
+    let c = c as usize;
+    let t = t as usize;
+    let d = d as usize;
+    run(rt, &commands[..c], &tray[..t], &data[..d]);
 }

@@ -8,6 +8,7 @@ ghost use Rattle.decim_tables.specs.Tables.{absg_list};
 use decim::Decim;
 use decim::start::{init_buff, init_lfsr};
 use decim_buffer::Buffer;
+use std::io::Stdout;
 use vectors_text::{
     cell, cells, end, heading, inputs, line, listing, put, remark, time, unhex, word,
 };
@@ -27,24 +28,24 @@ fn bytes(st: Decim, t: &[u8; 128]) -> [u8; 24]
     z
 }
 
-fn show(z: [u8; 24]) {
+fn show(stdout: Stdout, z: [u8; 24]) {
     let mut i: usize = 0;
     while i < 6 {
-        word(words::word_at(&z, 4 * i));
+        word(stdout, words::word_at(&z, 4 * i));
         i += 1;
     }
-    end();
+    end(stdout);
 }
 
-fn stream(k: &[u8], v: &[u8], t: &[u8; 128])
+fn stream(stdout: Stdout, k: &[u8], v: &[u8], t: &[u8; 128])
     requires { t.now ≡ absg_list }
 {
-    inputs(k, v);
+    inputs(stdout, k, v);
     let mut key = [0u8; 10];
     let mut iv = [0u8; 8];
     unhex(k, &mut key);
     unhex(v, &mut iv);
-    show(bytes(Decim::init(&key, &iv, t), t));
+    show(stdout, bytes(Decim::init(&key, &iv, t), t));
 }
 
 // A word with its last bit first.
@@ -58,7 +59,7 @@ fn turned(w: u32) -> u32 {
     r
 }
 
-fn register(a: [u32; 6]) {
+fn register(stdout: Stdout, a: [u32; 6]) {
     let s = [
         turned(a[5]),
         turned(a[4]),
@@ -67,50 +68,50 @@ fn register(a: [u32; 6]) {
         turned(a[1]),
         turned(a[0]),
     ];
-    cells(b" a", &s);
+    cells(stdout, b" a", &s);
 }
 
-fn bit(x: u32) {
+fn bit(stdout: Stdout, x: u32) {
     if x % 2 == 0 {
-        put(b"0");
+        put(stdout, b"0");
     } else {
-        put(b"1");
+        put(stdout, b"1");
     }
 }
 
 // The state at time i - 256, T from T0 to T2.
-fn state_at(i: usize, s: Decim) {
-    time(i, 256);
+fn state_at(stdout: Stdout, i: usize, s: Decim) {
+    time(stdout, i, 256);
     let a = s.a;
-    register(a);
+    register(stdout, a);
     let h = s.buffer;
-    put(b" T ");
-    bit(h.t / 4);
-    bit(h.t / 2);
-    bit(h.t);
-    put(b" b");
-    cell(turned(h.b));
-    listing(b" I ", h.fill as usize);
+    put(stdout, b" T ");
+    bit(stdout, h.t / 4);
+    bit(stdout, h.t / 2);
+    bit(stdout, h.t);
+    put(stdout, b" b");
+    cell(stdout, turned(h.b));
+    listing(stdout, b" I ", h.fill as usize);
 }
 
 // The registers of LFSR mode from the first on, and the last of them.
-fn mix(first: [u32; 6]) -> [u32; 6] {
+fn mix(stdout: Stdout, first: [u32; 6]) -> [u32; 6] {
     let mut a = first;
-    time(0, 256);
-    register(a);
+    time(stdout, 0, 256);
+    register(stdout, a);
     let mut i: usize = 0;
     while i < 192 {
         let next = init_lfsr(a);
         a = next;
         i += 1;
-        time(i, 256);
-        register(a);
+        time(stdout, i, 256);
+        register(stdout, a);
     }
     a
 }
 
 // The states of BUFF mode after the first, and the last of them.
-fn fill(first: Decim, t: &[u8; 128]) -> Decim
+fn fill(stdout: Stdout, first: Decim, t: &[u8; 128]) -> Decim
     requires { t.now ≡ absg_list }
 {
     let mut s = first;
@@ -118,72 +119,73 @@ fn fill(first: Decim, t: &[u8; 128]) -> Decim
     while n < 64 && s.buffer.fill < 32 {
         s = init_buff(s, t);
         n += 1;
-        state_at(192 + n, s);
+        state_at(stdout, 192 + n, s);
     }
     s
 }
 
 // S(0) to S(24).
-fn run(first: Decim, t: &[u8; 128])
+fn run(stdout: Stdout, first: Decim, t: &[u8; 128])
     requires { t.now ≡ absg_list }
 {
     let mut s = first;
-    state_at(256, s);
+    state_at(stdout, 256, s);
     let mut n: usize = 0;
     while n < 24 {
         s = s.step(t);
         n += 1;
-        state_at(256 + 8 * n, s);
+        state_at(stdout, 256 + 8 * n, s);
     }
 }
 
-fn states(t: &[u8; 128])
+fn states(stdout: Stdout, t: &[u8; 128])
     requires { t.now ≡ absg_list }
 {
     let mut key = [0u8; 10];
     let iv = [0u8; 8];
     unhex(b"00000000000000000080", &mut key);
-    let a = mix(decim::start::load(&key, &iv));
+    let a = mix(stdout, decim::start::load(&key, &iv));
     let buffer = Buffer {
         t: 0,
         b: 0,
         fill: 0,
     };
     let s = Decim { a, buffer };
-    run(fill(s, t), t);
+    run(stdout, fill(stdout, s, t), t);
 }
 
-fn first_streams(t: &[u8; 128])
+fn first_streams(stdout: Stdout, t: &[u8; 128])
     requires { t.now ≡ absg_list }
 {
-    heading(b"C.5.2");
-    stream(b"00000000000000000080", b"0000000000000000", t);
-    heading(b"C.5.2");
-    stream(b"00000000000000000000", b"0000000000000080", t);
-    heading(b"C.5.2");
-    stream(b"09090909090909090909", b"0000000000000000", t);
+    heading(stdout, b"C.5.2");
+    stream(stdout, b"00000000000000000080", b"0000000000000000", t);
+    heading(stdout, b"C.5.2");
+    stream(stdout, b"00000000000000000000", b"0000000000000080", t);
+    heading(stdout, b"C.5.2");
+    stream(stdout, b"09090909090909090909", b"0000000000000000", t);
 }
 
-fn last_streams(t: &[u8; 128])
+fn last_streams(stdout: Stdout, t: &[u8; 128])
     requires { t.now ≡ absg_list }
 {
-    heading(b"C.5.2");
-    stream(b"09080706050403020100", b"0000000000000000", t);
-    heading(b"C.5.2");
-    stream(b"eb9845f29f4cf9a65300", b"de7710a942db740d", t);
-    heading(b"C.5.2");
-    stream(b"faa75401ae5b08b5620f", b"f9922bc45df68f28", t);
+    heading(stdout, b"C.5.2");
+    stream(stdout, b"09080706050403020100", b"0000000000000000", t);
+    heading(stdout, b"C.5.2");
+    stream(stdout, b"eb9845f29f4cf9a65300", b"de7710a942db740d", t);
+    heading(stdout, b"C.5.2");
+    stream(stdout, b"faa75401ae5b08b5620f", b"f9922bc45df68f28", t);
 }
 
 // C.5.
-pub fn print() {
+pub fn print(stdout: Stdout) {
     let t = decim_tables::absg();
-    line(b"Decim v2");
-    first_streams(&t);
-    last_streams(&t);
-    heading(b"C.5.3");
+    line(stdout, b"Decim v2");
+    first_streams(stdout, &t);
+    last_streams(stdout, &t);
+    heading(stdout, b"C.5.3");
     remark(
+        stdout,
         b"the scan prints the registers to time -235 short of a byte or two, and before time 0 T from T2 to T0",
     );
-    states(&t);
+    states(stdout, &t);
 }

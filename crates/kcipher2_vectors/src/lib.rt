@@ -7,14 +7,16 @@ ghost use Rattle.field.specs.Tables.{column_list};
 ghost use Rattle.kcipher2_tables.specs.Tables.{Lent};
 
 use kcipher2::Kcipher2;
+use std::io::Stdout;
 use vectors_text::{cells, end, heading, inputs, line, named, remark, time, unhex, word};
 
-fn unit(z: [u32; 2]) {
-    word(z[0]);
-    word(z[1]);
+fn unit(stdout: Stdout, z: [u32; 2]) {
+    word(stdout, z[0]);
+    word(stdout, z[1]);
 }
 
 fn put_units(
+    stdout: Stdout,
     from: Kcipher2,
     m0: &[u32; 256],
     m1: &[u32; 256],
@@ -28,15 +30,15 @@ fn put_units(
     let mut s = from;
     let mut i: usize = 0;
     while i < units {
-        unit(s.output());
+        unit(stdout, s.output());
         s = s.step(m0, m1, m2, m3, t);
         i += 1;
     }
-    end();
+    end(stdout);
 }
 
-fn stream(k: &[u8], v: &[u8], units: usize) {
-    inputs(k, v);
+fn stream(stdout: Stdout, k: &[u8], v: &[u8], units: usize) {
+    inputs(stdout, k, v);
     let mut key = [0u8; 16];
     let mut iv = [0u8; 16];
     unhex(k, &mut key);
@@ -47,19 +49,19 @@ fn stream(k: &[u8], v: &[u8], units: usize) {
     let m3 = kcipher2_tables::alpha3();
     let t = field::tables::column();
     let s = Kcipher2::init(&key, &iv, &m0, &m1, &m2, &m3, &t);
-    put_units(s, &m0, &m1, &m2, &m3, &t, units);
+    put_units(stdout, s, &m0, &m1, &m2, &m3, &t, units);
 }
 
-fn state(s: Kcipher2) {
+fn state(stdout: Stdout, s: Kcipher2) {
     let a = s.a;
     let b = s.b;
-    cells(b" A", &a);
-    cells(b" B", &b);
-    named(b"R1", s.r1);
-    named(b"L1", s.l1);
-    named(b"R2", s.r2);
-    named(b"L2", s.l2);
-    end();
+    cells(stdout, b" A", &a);
+    cells(stdout, b" B", &b);
+    named(stdout, b"R1", s.r1);
+    named(stdout, b"L1", s.l1);
+    named(stdout, b"R2", s.r2);
+    named(stdout, b"L2", s.l2);
+    end(stdout);
 }
 
 fn next(
@@ -80,7 +82,7 @@ fn next(
 }
 
 // The states from time -24 on.
-fn states_from(from: Kcipher2, t: &[u32; 256])
+fn states_from(stdout: Stdout, from: Kcipher2, t: &[u32; 256])
     requires { t.now ≡ column_list }
 {
     let m0 = kcipher2_tables::alpha0();
@@ -90,51 +92,61 @@ fn states_from(from: Kcipher2, t: &[u32; 256])
     let mut s = from;
     let mut i: usize = 0;
     while i < 32 {
-        time(i, 24);
-        state(s);
+        time(stdout, i, 24);
+        state(stdout, s);
         s = next(s, i, &m0, &m1, &m2, &m3, t);
         i += 1;
     }
 }
 
-fn states() {
+fn states(stdout: Stdout) {
     let mut key = [0u8; 16];
     let mut iv = [0u8; 16];
     unhex(b"80000000000000000000000000000000", &mut key);
     unhex(b"00000004000000030000000200000001", &mut iv);
     let t = field::tables::column();
-    states_from(kcipher2::start::load(&key, &iv, &t), &t);
+    states_from(stdout, kcipher2::start::load(&key, &iv, &t), &t);
 }
 
 // C.6.
-pub fn print() {
-    line(b"KCipher-2");
-    heading(b"C.6.1");
+pub fn print(stdout: Stdout) {
+    line(stdout, b"KCipher-2");
+    heading(stdout, b"C.6.1");
     stream(
+        stdout,
         b"00000000000000000000000000000000",
         b"00000000000000000000000000000000",
         8,
     );
-    heading(b"C.6.1");
+    heading(stdout, b"C.6.1");
     stream(
+        stdout,
         b"0f1e2d3c4b5a69788796a5b4c3d2e1f0",
         b"f0e0d0c0b0a090807060504030201000",
         8,
     );
-    heading(b"C.6.1");
+    heading(stdout, b"C.6.1");
     stream(
+        stdout,
         b"ac2f75c043fbc36709d315f2245746d8",
         b"f6b29a5845cccd8c6229393a7a4842c1",
         8,
     );
-    heading(b"C.6.2");
-    remark(b"the scan has ffffa4197 for fffa4197 at times -11 to -9");
+    heading(stdout, b"C.6.2");
+    remark(
+        stdout,
+        b"the scan has ffffa4197 for fffa4197 at times -11 to -9",
+    );
     stream(
+        stdout,
         b"80000000000000000000000000000000",
         b"00000004000000030000000200000001",
         4,
     );
-    heading(b"C.6.2");
-    remark(b"the scan has ffffa4197 for fffa4197 at times -11 to -9");
-    states();
+    heading(stdout, b"C.6.2");
+    remark(
+        stdout,
+        b"the scan has ffffa4197 for fffa4197 at times -11 to -9",
+    );
+    states(stdout);
 }

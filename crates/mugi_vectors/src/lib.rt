@@ -6,10 +6,11 @@ ghost use Rattle.std.specs.Prelude.{◌≡◌, length};
 ghost use Rattle.mugi_tables.specs.Tables.{mixing_list};
 
 use mugi::Mugi;
+use std::io::Stdout;
 use vectors_text::{block, end, heading, inputs, line, listing, put, remark, time, unhex};
 
-fn stream(k: &[u8], v: &[u8], units: usize) {
-    inputs(k, v);
+fn stream(stdout: Stdout, k: &[u8], v: &[u8], units: usize) {
+    inputs(stdout, k, v);
     let mut key = [0u8; 16];
     let mut iv = [0u8; 16];
     unhex(k, &mut key);
@@ -18,47 +19,47 @@ fn stream(k: &[u8], v: &[u8], units: usize) {
     let mut s = Mugi::init(&key, &iv, &t);
     let mut i: usize = 0;
     while i < units {
-        block(s.output());
+        block(stdout, s.output());
         s = s.step(&t);
         i += 1;
     }
-    end();
+    end(stdout);
 }
 
 // Block i of a register, at the start of a line where four stand before it.
-fn nth(i: usize, x: u64) {
+fn nth(stdout: Stdout, i: usize, x: u64) {
     if 0 < i && i % 4 == 0 {
-        put(b"\n  ");
+        put(stdout, b"\n  ");
     }
-    put(b" ");
-    block(x);
+    put(stdout, b" ");
+    block(stdout, x);
 }
 
 // Blocks, four to a line.
-fn blocks(name: &[u8], s: &[u64]) {
-    put(name);
+fn blocks(stdout: Stdout, name: &[u8], s: &[u64]) {
+    put(stdout, name);
     let mut i: usize = 0;
     while i < s.len() {
-        nth(i, s[i]);
+        nth(stdout, i, s[i]);
         i += 1;
     }
-    end();
+    end(stdout);
 }
 
 // The register a.
-fn short(a: [u64; 3]) {
-    blocks(b" a", &a);
+fn short(stdout: Stdout, a: [u64; 3]) {
+    blocks(stdout, b" a", &a);
 }
 
-fn state(s: Mugi) {
+fn state(stdout: Stdout, s: Mugi) {
     let a = s.a;
     let b = s.b;
-    short(a);
-    blocks(b" b", &b);
+    short(stdout, a);
+    blocks(stdout, b" b", &b);
 }
 
 // A key's turns: the state before each, and after the last, which is returned.
-fn keying(key: &[u8], t: &[u32; 256]) -> Mugi
+fn keying(stdout: Stdout, key: &[u8], t: &[u32; 256]) -> Mugi
     requires key_len { length key.now ≡ 16 }
     requires t_value { t.now ≡ mixing_list }
 {
@@ -66,19 +67,19 @@ fn keying(key: &[u8], t: &[u32; 256]) -> Mugi
     let mut b = [0u64; 16];
     let mut i: usize = 0;
     while i < 16 {
-        listing(b"rho function ", i);
-        state(Mugi { a, b });
+        listing(stdout, b"rho function ", i);
+        state(stdout, Mugi { a, b });
         a = mugi::start::turn(a, t);
         b[15 - i] = a[0];
         i += 1;
     }
-    line(b"buffer init");
-    state(Mugi { a, b });
+    line(stdout, b"buffer init");
+    state(stdout, Mugi { a, b });
     Mugi { a, b }
 }
 
 // An IV's turns: a before each, since b stays, and the state after the last, which is returned.
-fn mixing(s: Mugi, iv: &[u8], t: &[u32; 256]) -> Mugi
+fn mixing(stdout: Stdout, s: Mugi, iv: &[u8], t: &[u32; 256]) -> Mugi
     requires iv_len { length iv.now ≡ 16 }
     requires t_value { t.now ≡ mixing_list }
 {
@@ -88,89 +89,109 @@ fn mixing(s: Mugi, iv: &[u8], t: &[u32; 256]) -> Mugi
     let mut a = mugi::start::add(start, v);
     let mut i: usize = 0;
     while i < 16 {
-        listing(b"rho function ", i);
-        short(a);
+        listing(stdout, b"rho function ", i);
+        short(stdout, a);
         let next = mugi::start::turn(a, t);
         a = next;
         i += 1;
     }
-    line(b"state init");
-    state(Mugi { a, b });
+    line(stdout, b"state init");
+    state(stdout, Mugi { a, b });
     Mugi { a, b }
 }
 
 // The start's updates: the states after the first fifteen, and S(0) after the sixteenth, which is returned.
-fn updates(from: Mugi, t: &[u32; 256]) -> Mugi
+fn updates(stdout: Stdout, from: Mugi, t: &[u32; 256]) -> Mugi
     requires { t.now ≡ mixing_list }
 {
     let mut s = from;
     let mut i: usize = 1;
     while i < 16 {
         s = s.step(t);
-        listing(b"update ", i);
-        state(s);
+        listing(stdout, b"update ", i);
+        state(stdout, s);
         i += 1;
     }
     s.step(t)
 }
 
 // The annex's 54 listings. Its last update of the start is time 0, and its updates of the stream are times 1 to 4.
-fn states() {
+fn states(stdout: Stdout) {
     let mut key = [0u8; 16];
     let mut iv = [0u8; 16];
     unhex(b"000102030405060708090a0b0c0d0e0f", &mut key);
     unhex(b"f0e0d0c0b0a090807060504030201000", &mut iv);
     let t = mugi_tables::mixing();
-    let loaded = keying(&key, &t);
-    let mixed = mixing(loaded, &iv, &t);
-    let mut s = updates(mixed, &t);
+    let loaded = keying(stdout, &key, &t);
+    let mixed = mixing(stdout, loaded, &iv, &t);
+    let mut s = updates(stdout, mixed, &t);
     let mut i: usize = 0;
     while i < 5 {
-        time(i, 0);
-        state(s);
+        time(stdout, i, 0);
+        state(stdout, s);
         s = s.step(&t);
         i += 1;
     }
 }
 
 // C.1.
-pub fn print() {
-    line(b"MUGI");
-    heading(b"C.1.1");
+pub fn print(stdout: Stdout) {
+    line(stdout, b"MUGI");
+    heading(stdout, b"C.1.1");
     stream(
+        stdout,
         b"00000000000000000000000000000000",
         b"00000000000000000000000000000000",
         4,
     );
-    heading(b"C.1.1");
+    heading(stdout, b"C.1.1");
     stream(
+        stdout,
         b"00000000000000000000000000000000",
         b"3461698851812139015500a53b7e5987",
         4,
     );
-    heading(b"C.1.1");
+    heading(stdout, b"C.1.1");
     stream(
+        stdout,
         b"513400b104a0599130ad00fc48d759e0",
         b"00000000000000000000000000000000",
         4,
     );
-    heading(b"C.1.1");
+    heading(stdout, b"C.1.1");
     stream(
+        stdout,
         b"69e706ee5295372c7513014730237993",
         b"2a0045c8492749d53a9b164a25e44915",
         4,
     );
-    heading(b"C.1.2");
+    heading(stdout, b"C.1.2");
     stream(
+        stdout,
         b"000102030405060708090a0b0c0d0e0f",
         b"f0e0d0c0b0a090807060504030201000",
         4,
     );
-    heading(b"C.1.2");
-    remark(b"the scan has cfc255e594b38ee for cfcb255e594b38ee at rho function 13 of the key");
-    remark(b"4e1balaafc06cb55 for 4e1ba1aafc06cb55 at rho function 13 of the IV");
-    remark(b"ddb859802a3037a for ddbd859802a3037a at updates 5 and 6");
-    remark(b"and 3b7b6dbc17a6deal for 3b7b6dbc17a6dea1 at times 3 and 4");
-    remark(b"its update 16 is time 0, and its updates 1 to 4 behind that are times 1 to 4");
-    states();
+    heading(stdout, b"C.1.2");
+    remark(
+        stdout,
+        b"the scan has cfc255e594b38ee for cfcb255e594b38ee at rho function 13 of the key",
+    );
+    remark(
+        stdout,
+        b"4e1balaafc06cb55 for 4e1ba1aafc06cb55 at rho function 13 of the IV",
+    );
+    remark(
+        stdout,
+        b"ddb859802a3037a for ddbd859802a3037a at updates 5 and 6",
+    );
+    remark(
+        stdout,
+        b"and 3b7b6dbc17a6deal for 3b7b6dbc17a6dea1 at times 3 and 4",
+    );
+    remark(
+        stdout,
+        b"its update 16 is time 0, and its updates 1 to 4 behind that are times 1 to 4",
+    );
+    states(stdout);
 }

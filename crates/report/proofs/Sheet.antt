@@ -6,10 +6,9 @@ use mathlib.Core.List.{List, ◌++◌}
 use Prim.Native.Nat.{ℕ, ◌+◌, ◌≤◌}
 use native.Mathlib.Omega.{arith}
 use lib.Dec.{eqb}
-use lib.ListN.{length, drop, length-append}
+use lib.ListN.{length, take, drop, length-append}
 use lib.Seq.{length-take-le}
 use borrow.Author.Tests.{eq-eqb, ne_eqb}
-use Rattle.io.specs.Counts.{IsPrefixLen}
 use Rattle.words.specs.Tests.{pick}
 use Rattle.card_sizes.specs.Sizes.{line_count}
 use Rattle.command.specs.Rows.{code_of}
@@ -41,7 +40,7 @@ module _ (s : List ℕ) {before out : List ℕ} {n r : ℕ} (coded : n ≡ code_
       (behind_more (behind_more h1 h2) (subst (λ (x : ℕ). Behind (figure x newline) b o2 out r) q h3))
 
 -- the text lies within the buffer
-pub printed : {s before out : List ℕ} {r : Reported} → ReportLeaves s before out r → IsPrefixLen r.written out
+pub printed : {s before out : List ℕ} {r : Reported} → ReportLeaves s before out r → (r.written ≤ length out) × (r.written ≡ length (take r.written out))
 printed {s} {before} {out} {r} p =
     let e = p.written_is in
     let l : length out ≡ length (report_of s) + length (drop r.written before) = ap length p.out-is ∙ length-append (report_of s) (drop r.written before) in

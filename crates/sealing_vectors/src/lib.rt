@@ -4,45 +4,47 @@
 
 use blocks::block_at;
 use command::CipherRead;
+use std::io::Stdout;
 use vectors_text::{block, end, heading, line, listing, put, unhex};
 
 // A line of a name and what it stands for.
-fn given(name: &[u8], digits: &[u8]) {
-    put(name);
-    line(digits);
+fn given(stdout: Stdout, name: &[u8], digits: &[u8]) {
+    put(stdout, name);
+    line(stdout, digits);
 }
 
 // The multiplier and its place.
-fn multiplier(cipher: u8, key: &[u8; 32], iv: &[u8; 16]) {
+fn multiplier(stdout: Stdout, cipher: u8, key: &[u8; 32], iv: &[u8; 16]) {
     let CipherRead::Is(c) = command::read_cipher(cipher) else {
         return;
     };
     let mut w = sealing_steps::start(c, key, iv);
     let found = sealing_stream::first(c, &mut w);
-    listing(b"t          ", found.t);
-    put(b"multiplier ");
-    block(found.a);
-    end();
+    listing(stdout, b"t          ", found.t);
+    put(stdout, b"multiplier ");
+    block(stdout, found.a);
+    end(stdout);
 }
 
 // The sealed text of three blocks.
-fn sealed(s: &[u8; 40]) {
-    put(b"sealed     ");
-    block(block_at(s, 0));
-    block(block_at(s, 8));
-    block(block_at(s, 16));
-    block(block_at(s, 24));
-    block(block_at(s, 32));
-    end();
+fn sealed(stdout: Stdout, s: &[u8; 40]) {
+    put(stdout, b"sealed     ");
+    block(stdout, block_at(s, 0));
+    block(stdout, block_at(s, 8));
+    block(stdout, block_at(s, 16));
+    block(stdout, block_at(s, 24));
+    block(stdout, block_at(s, 32));
+    end(stdout);
 }
 
 // A message of 24 bytes sealed with a cipher, a key and an IV.
-fn example(name: &[u8], cipher: u8, k: &[u8], v: &[u8]) {
-    heading(name);
-    given(b"key        ", k);
-    given(b"iv         ", v);
-    given(b"redundancy ", b"0001020304050607");
+fn example(stdout: Stdout, name: &[u8], cipher: u8, k: &[u8], v: &[u8]) {
+    heading(stdout, name);
+    given(stdout, b"key        ", k);
+    given(stdout, b"iv         ", v);
+    given(stdout, b"redundancy ", b"0001020304050607");
     given(
+        stdout,
         b"message    ",
         b"526f6f6d203431322c2031372063616c6c732c2039305045",
     );
@@ -58,21 +60,23 @@ fn example(name: &[u8], cipher: u8, k: &[u8], v: &[u8]) {
         b"526f6f6d203431322c2031372063616c6c732c2039305045",
         &mut message,
     );
-    multiplier(cipher, &key, &iv);
+    multiplier(stdout, cipher, &key, &iv);
     sealing::seal(cipher, &key, &iv, &redundancy, &message, &mut out);
-    sealed(&out);
+    sealed(stdout, &out);
 }
 
 // 6.2.3.
-pub fn print() {
-    line(b"MULTI-S01");
+pub fn print(stdout: Stdout) {
+    line(stdout, b"MULTI-S01");
     example(
+        stdout,
         b"6.2.3 over ZUC",
         1,
         b"3d4c4be96a82fdaeb58f641db17b455b",
         b"84319aa8de6915ca1f6bda6bfbd8c766",
     );
     example(
+        stdout,
         b"6.2.3 over Rabbit",
         2,
         b"000102030405060708090a0b0c0d0e0f",

@@ -3,23 +3,22 @@
 // standard error and prints nothing.
 #![tactic(auto)]
 
-use libc::STDOUT_FILENO;
 use report::SHEET;
 
 // One byte more than a sheet takes, which tells a longer file.
 const READ: usize = traffic::MOST + 1;
 
-fn main() {
+fn main(rt: HostRuntime) {
     let mut records = [0u8; READ];
-    let got = files::read(b"use.bin", b"sheet: use.bin", &mut records);
+    let got = files::read(rt, b"use.bin", b"sheet: use.bin", &mut records);
     if got < 0 {
         return;
     }
-    let n = io::count(got, &records);
+    let n = got as usize;
     let mut out = [0u8; SHEET];
     let reported = report::report(&records[..n], &mut out);
     let written = reported.written;
-    if !io::write_all(STDOUT_FILENO, &out[..written]) {
-        os::fail(b"sheet: standard output");
+    if let Err(e) = rt.write_all(&out[..written]) {
+        let _ = eprintln!(rt; "sheet: standard output: {e}");
     }
 }

@@ -2,13 +2,12 @@
 // Where standard output takes no bytes, it says so on standard error.
 #![tactic(auto)]
 
-use libc::STDOUT_FILENO;
 use tables_text::SIZE;
 
-fn main() {
+fn main(rt: HostRuntime) {
     let mut out = [0u8; SIZE];
     tables_text::tables(&mut out);
-    if !io::write_all(STDOUT_FILENO, &out) {
-        os::fail(b"tables: standard output");
+    if let Err(e) = rt.write_all(&out) {
+        let _ = eprintln!(rt; "tables: standard output: {e}");
     }
 }

@@ -2,12 +2,13 @@
 // records, which the annex has none of.
 #![tactic(auto)]
 
-fn main() {
-    mugi_vectors::print();
-    snow2_vectors::print128();
-    snow2_vectors::print256();
-    rabbit_vectors::print();
-    kcipher2_vectors::print();
-    zuc_vectors::print();
-    sealing_vectors::print();
+fn main(rt: HostRuntime) {
+    let stdout = rt.stdout();
+    mugi_vectors::print(stdout);
+    snow2_vectors::print128(stdout);
+    snow2_vectors::print256(stdout);
+    rabbit_vectors::print(stdout);
+    kcipher2_vectors::print(stdout);
+    zuc_vectors::print(stdout);
+    sealing_vectors::print(stdout);
 }

@@ -1,94 +1,98 @@
 // What the program prints: lines, hexadecimal words, blocks and bytes, and the time of a state.
 #![tactic(auto)]
 
-use libc::STDOUT_FILENO;
+use std::io::Stdout;
 
-pub fn put(s: &[u8]) {
-    io::write_all(STDOUT_FILENO, s);
+// What standard output does not take is lost.
+pub fn put(stdout: Stdout, s: &[u8]) {
+    let _ = stdout.write_all(s);
 }
 
-pub fn end() {
-    put(b"\n");
+pub fn end(stdout: Stdout) {
+    put(stdout, b"\n");
 }
 
-pub fn line(s: &[u8]) {
-    put(s);
-    end();
+pub fn line(stdout: Stdout, s: &[u8]) {
+    put(stdout, s);
+    end(stdout);
 }
 
 // The clause that the next lines are from.
-pub fn heading(clause: &[u8]) {
-    put(b"\n");
-    line(clause);
+pub fn heading(stdout: Stdout, clause: &[u8]) {
+    put(stdout, b"\n");
+    line(stdout, clause);
 }
 
 // What the scan prints otherwise.
-pub fn remark(s: &[u8]) {
-    put(b"[");
-    put(s);
-    line(b"]");
+pub fn remark(stdout: Stdout, s: &[u8]) {
+    put(stdout, b"[");
+    put(stdout, s);
+    line(stdout, b"]");
 }
 
-pub fn word(w: u32) {
+pub fn word(stdout: Stdout, w: u32) {
     let mut digits = [0u8; 8];
     hex_text::fill(w as u64, &mut digits);
-    put(&digits);
+    put(stdout, &digits);
 }
 
 // A space and a word.
-pub fn cell(w: u32) {
-    put(b" ");
-    word(w);
+pub fn cell(stdout: Stdout, w: u32) {
+    put(stdout, b" ");
+    word(stdout, w);
 }
 
-pub fn block(x: u64) {
+pub fn block(stdout: Stdout, x: u64) {
     let mut digits = [0u8; 16];
     hex_text::fill(x, &mut digits);
-    put(&digits);
+    put(stdout, &digits);
 }
 
 // A word of Rabbit's keystream, whose first byte is its lowest.
-fn word_up(w: u32) {
-    word(words::join(
-        (w % 256) as u8,
-        (w / 256 % 256) as u8,
-        (w / 65536 % 256) as u8,
-        (w / 16777216 % 256) as u8,
-    ));
+fn word_up(stdout: Stdout, w: u32) {
+    word(
+        stdout,
+        words::join(
+            (w % 256) as u8,
+            (w / 256 % 256) as u8,
+            (w / 65536 % 256) as u8,
+            (w / 16777216 % 256) as u8,
+        ),
+    );
 }
 
-pub fn unit_up(z: [u32; 4]) {
-    word_up(z[0]);
-    word_up(z[1]);
-    word_up(z[2]);
-    word_up(z[3]);
+pub fn unit_up(stdout: Stdout, z: [u32; 4]) {
+    word_up(stdout, z[0]);
+    word_up(stdout, z[1]);
+    word_up(stdout, z[2]);
+    word_up(stdout, z[3]);
 }
 
 // A space and a word with its name.
-pub fn named(name: &[u8], w: u32) {
-    put(b" ");
-    put(name);
-    put(b":");
-    word(w);
+pub fn named(stdout: Stdout, name: &[u8], w: u32) {
+    put(stdout, b" ");
+    put(stdout, name);
+    put(stdout, b":");
+    word(stdout, w);
 }
 
 // The time i - before.
-pub fn time(i: usize, before: usize) {
-    put(b"time ");
+pub fn time(stdout: Stdout, i: usize, before: usize) {
+    put(stdout, b"time ");
     if i < before {
-        put(b"-");
-        io::print_decimal(STDOUT_FILENO, (before - i) as u64);
+        put(stdout, b"-");
+        let _ = stdout.print(before - i);
     } else {
-        io::print_decimal(STDOUT_FILENO, (i - before) as u64);
+        let _ = stdout.print(i - before);
     }
-    end();
+    end(stdout);
 }
 
 // A line of a name and a number.
-pub fn listing(name: &[u8], i: usize) {
-    put(name);
-    io::print_decimal(STDOUT_FILENO, i as u64);
-    end();
+pub fn listing(stdout: Stdout, name: &[u8], i: usize) {
+    put(stdout, name);
+    let _ = stdout.print(i);
+    end(stdout);
 }
 
 // The value of a hexadecimal digit, and 0 of any other byte.
@@ -124,44 +128,44 @@ pub fn unhex(s: &[u8], out: &mut [u8]) {
     }
 }
 
-pub fn inputs(key: &[u8], iv: &[u8]) {
-    put(b"key ");
-    line(key);
-    put(b"iv  ");
-    line(iv);
-    put(b"z   ");
+pub fn inputs(stdout: Stdout, key: &[u8], iv: &[u8]) {
+    put(stdout, b"key ");
+    line(stdout, key);
+    put(stdout, b"iv  ");
+    line(stdout, iv);
+    put(stdout, b"z   ");
 }
 
 // Cell i of a register with its number, and the end of a line of eight.
-fn numbered(i: usize, w: u32) {
-    put(b" ");
+fn numbered(stdout: Stdout, i: usize, w: u32) {
+    put(stdout, b" ");
     if i < 10 {
-        put(b"0");
+        put(stdout, b"0");
     }
-    io::print_decimal(STDOUT_FILENO, i as u64);
-    put(b":");
-    word(w);
+    let _ = stdout.print(i);
+    put(stdout, b":");
+    word(stdout, w);
     if i % 8 == 0 {
-        end();
+        end(stdout);
     }
 }
 
 // Sixteen cells, from the top down.
-pub fn register(a: [u32; 16]) {
+pub fn register(stdout: Stdout, a: [u32; 16]) {
     let mut i: usize = 16;
     while 0 < i {
         i -= 1;
-        numbered(i, a[i]);
+        numbered(stdout, i, a[i]);
     }
 }
 
 // A line of cells.
-pub fn cells(name: &[u8], s: &[u32]) {
-    put(name);
+pub fn cells(stdout: Stdout, name: &[u8], s: &[u32]) {
+    put(stdout, name);
     let mut i: usize = 0;
     while i < s.len() {
-        cell(s[i]);
+        cell(stdout, s[i]);
         i += 1;
     }
-    end();
+    end(stdout);
 }

@@ -4,24 +4,25 @@
 
 ghost use Rattle.zuc_tables.specs.Tables.{Lent};
 
+use std::io::Stdout;
 use vectors_text::{end, heading, inputs, line, named, register, remark, time, unhex, word};
 use zuc::Zuc;
 
-fn put_units(from: Zuc, t1: &[u8; 256], t2: &[u8; 256], units: usize)
+fn put_units(stdout: Stdout, from: Zuc, t1: &[u8; 256], t2: &[u8; 256], units: usize)
     requires { Lent t1.now t2.now }
 {
     let mut s = from;
     let mut i: usize = 0;
     while i < units {
-        word(s.output());
+        word(stdout, s.output());
         s = s.step(t1, t2);
         i += 1;
     }
-    end();
+    end(stdout);
 }
 
-fn stream(k: &[u8], v: &[u8], units: usize) {
-    inputs(k, v);
+fn stream(stdout: Stdout, k: &[u8], v: &[u8], units: usize) {
+    inputs(stdout, k, v);
     let mut key = [0u8; 16];
     let mut iv = [0u8; 16];
     unhex(k, &mut key);
@@ -29,15 +30,15 @@ fn stream(k: &[u8], v: &[u8], units: usize) {
     let t1 = zuc_tables::sub1();
     let t2 = zuc_tables::sub2();
     let s = Zuc::init(&key, &iv, &t1, &t2);
-    put_units(s, &t1, &t2, units);
+    put_units(stdout, s, &t1, &t2, units);
 }
 
-fn state(s: Zuc) {
+fn state(stdout: Stdout, s: Zuc) {
     let a = s.a;
-    register(a);
-    named(b"R1", s.r1);
-    named(b"R2", s.r2);
-    end();
+    register(stdout, a);
+    named(stdout, b"R1", s.r1);
+    named(stdout, b"R2", s.r2);
+    end(stdout);
 }
 
 // The state after the state at i steps from loading.
@@ -50,7 +51,7 @@ fn next(s: Zuc, i: usize, t1: &[u8; 256], t2: &[u8; 256]) -> Zuc
     s.step(t1, t2)
 }
 
-fn states() {
+fn states(stdout: Stdout) {
     let mut key = [0u8; 16];
     let mut iv = [0u8; 16];
     unhex(b"3d4c4be96a82fdaeb58f641db17b455b", &mut key);
@@ -60,43 +61,53 @@ fn states() {
     let mut s = zuc::start::load(&key, &iv);
     let mut i: usize = 0;
     while i < 42 {
-        time(i, 33);
-        state(s);
+        time(stdout, i, 33);
+        state(stdout, s);
         s = next(s, i, &t1, &t2);
         i += 1;
     }
 }
 
 // C.7.
-pub fn print() {
-    line(b"ZUC");
-    heading(b"C.7.1");
+pub fn print(stdout: Stdout) {
+    line(stdout, b"ZUC");
+    heading(stdout, b"C.7.1");
     stream(
+        stdout,
         b"00000000000000000000000000000000",
         b"00000000000000000000000000000000",
         8,
     );
-    heading(b"C.7.1");
-    remark(b"the scan prints 15 of the 16 bytes ff of key and IV");
+    heading(stdout, b"C.7.1");
+    remark(
+        stdout,
+        b"the scan prints 15 of the 16 bytes ff of key and IV",
+    );
     stream(
+        stdout,
         b"ffffffffffffffffffffffffffffffff",
         b"ffffffffffffffffffffffffffffffff",
         8,
     );
-    heading(b"C.7.1");
-    remark(b"the scan prints 15 of the 16 bytes ff of the IV");
+    heading(stdout, b"C.7.1");
+    remark(stdout, b"the scan prints 15 of the 16 bytes ff of the IV");
     stream(
+        stdout,
         b"00000000000000000000000000000000",
         b"ffffffffffffffffffffffffffffffff",
         8,
     );
-    heading(b"C.7.1");
+    heading(stdout, b"C.7.1");
     stream(
+        stdout,
         b"3d4c4be96a82fdaeb58f641db17b455b",
         b"84319aa8de6915ca1f6bda6bfbd8c766",
         8,
     );
-    heading(b"C.7.2");
-    remark(b"the scan has 7a9alcff for 7a9a1cff at times -1 to 2");
-    states();
+    heading(stdout, b"C.7.2");
+    remark(
+        stdout,
+        b"the scan has 7a9alcff for 7a9a1cff at times -1 to 2",
+    );
+    states(stdout);
 }

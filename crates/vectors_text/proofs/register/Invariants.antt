@@ -1,7 +1,6 @@
--- `vectors_text::register` meets its contract: the loop counts down from 16.
+-- `vectors_text::register`: the loop counts down from 16.
 -- Assumes nothing.
-use Prim.Native.Nat.{◌≤◌}
-use borrow.Author.Rules.{rules}
+use Rattle.std.proofs.Common.{◌≤◌}
 use Rattle.vectors_text.proofs.register.Given as goal
 
 abbrev pub invariant-loop-i : goal.invariant-loop-i

@@ -1,10 +1,6 @@
--- `vectors_text::unhex` meets its contract: the loop counts up to the buffer's length, which no store changes.
+-- `vectors_text::unhex`: the loop counts up to the buffer's length, which no store changes.
 -- Assumes nothing.
-use mathlib.Core.Path.{◌≡◌}
-use Prim.Native.Nat.{◌-◌, ◌≤◌}
-use native.Mathlib.Omega.{arith}
-use lib.ListN.{length, length-set}
-use borrow.Author.Rules.{rules}
+use Rattle.std.proofs.Common.{length, ◌-◌, ◌≤◌, ◌≡◌}
 use Rattle.vectors_text.proofs.unhex.Given as goal
 
 abbrev pub invariant-loop-i : goal.invariant-loop-i
