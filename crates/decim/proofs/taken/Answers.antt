@@ -24,14 +24,13 @@ overflow_add-z c =
     }
 
 pub loop-k-preserved : goal.loop-k-preserved
-loop-k-preserved c =
-    (
-      omega arith,
-      (
-        rw (c.next-held.ensures, c.loop-k.invariant.1.0, refills_more),
-        up_turn (bit_after c.args.f c.args.h) (λ k. digit _ 0) c.loop-k.k c.loop-k-test.true c.loop-k.invariant.1.1 (ap (λ (x : Buffer). bit_in x.b 0) c.loop-k.invariant.1.0),
-      ),
-    )
+loop-k-preserved c = (
+  omega arith,
+  (
+    rw (c.next-held.ensures, c.loop-k.invariant.1.0, refills_more),
+    up_turn (bit_after c.args.f c.args.h) (λ k. digit _ 0) c.loop-k.k c.loop-k-test.true c.loop-k.invariant.1.1 (ap (λ (x : Buffer). bit_in x.b 0) c.loop-k.invariant.1.0),
+  ),
+)
 
 pub overflow_cast-result : goal.overflow_cast-result
 overflow_cast-result c =
