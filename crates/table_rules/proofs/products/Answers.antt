@@ -16,4 +16,6 @@ loop-k-preserved c =
 
 pub returns : goal.returns
 unfolding products_of
-returns c = entered_all (λ i. scaled c.args.p i c.args.v) c.loop-k-test.false c.loop-k.invariant
+returns c =
+    let h = entered_all (λ i. scaled c.args.p i c.args.v) c.loop-k-test.false c.loop-k.invariant in
+    record { value = h.0; value_2 = h.1 }

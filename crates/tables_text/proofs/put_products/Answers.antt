@@ -5,4 +5,7 @@ use borrow.Author.Rules.{rules}
 use Rattle.tables_text.proofs.put_products.Goals as goal
 
 pub returns : goal.returns
-returns c = worked-out 8 c.products-t.ensures c.put_table.ensures
+returns c =
+    let t = c.products-t.ensures in
+    let h = worked-out 8 (t.value, t.value_2) (c.put_table.ensures.behind, c.put_table.ensures.value) in
+    record { behind = h.0; value = h.1 }
