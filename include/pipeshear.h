@@ -29,7 +29,7 @@
  *
  * A message, such as the record of a call, can be sealed as a whole without a card, with pipeshear_seal and pipeshear_unseal.
  *
- * Link with target/staticlib/libpipeshear.a, which `rt staticlib pipeshear` makes for Linux on x86-64. */
+ * Link with target/staticlib/libpipeshear.a, which `tests/made library` makes for Linux on x86-64. */
 #ifndef PIPESHEAR_H
 #define PIPESHEAR_H
 

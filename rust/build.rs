@@ -11,7 +11,7 @@ fn main() {
     println!("cargo:rerun-if-changed={}", library.display());
     if !library.is_file() {
         eprintln!("{} is not there.", library.display());
-        eprintln!("Run `rt staticlib pipeshear` in the repository, or set PIPESHEAR_LIB_DIR to the library's folder.");
+        eprintln!("Run `tests/made library` in the repository, or set PIPESHEAR_LIB_DIR to the library's folder.");
         exit(1);
     }
     println!("cargo:rustc-link-search=native={}", folder.display());

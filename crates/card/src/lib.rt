@@ -4,7 +4,7 @@
 
 ghost use Rattle.std.specs.Prelude.{◌≡◌};
 ghost use Rattle.card_outcome.specs.Leaves.{call_of};
-ghost use Rattle.card.specs.Ran.{fresh as Ran·fresh, CallPromise};
+ghost use Rattle.card.specs.Ran.{fresh as fresh_card, CallPromise};
 
 use card_outcome::Outcome;
 use card_sizes::CARD;
@@ -23,7 +23,7 @@ pub struct Answer {
 
 // A fresh card: all zeros.
 pub fn fresh() -> Card
-    ensures { result ≡ Ran·fresh }
+    ensures { result ≡ fresh_card }
 {
     Card {
         words: [0u32; CARD],

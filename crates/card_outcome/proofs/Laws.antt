@@ -107,8 +107,8 @@ put-parks ws i l q s p = ap (λ (c : Seen). c.parks) (put-seen ws i l q s.size p
 -- ---- what an effect gives
 
 -- what one effect leaves, an effect that is the same leaves
-pub by-rows : (ws : List ℕ) {e f : Effect} {text out : List ℕ} {r : Outcome} {ws' o : List ℕ} → e ≡ f → EffectLeaves ws text out f r ws' o → EffectLeaves ws text out e r ws' o
-by-rows ws {text = text} {out = out} {r = r} {ws' = ws'} {o = o} q h = subst (λ (x : Effect). EffectLeaves ws text out x r ws' o) (sym q) h
+pub by-rows : (ws : List ℕ) {e f : Effect} (text out : List ℕ) {r : Outcome} {ws' o : List ℕ} → e ≡ f → EffectLeaves ws text out f r ws' o → EffectLeaves ws text out e r ws' o
+by-rows ws text out {r = r} {ws' = ws'} {o = o} q h = subst (λ (x : Effect). EffectLeaves ws text out x r ws' o) (sym q) h
 
 module _ (ws text out : List ℕ) where
   pub given-true : (b : Bool) (k : ℕ) (e : Effect) {r : Outcome} {ws' o : List ℕ} → b ≡ true → EffectLeaves ws text out (refuse k) r ws' o → EffectLeaves ws text out (refuse_if b k e) r ws' o

@@ -70,6 +70,7 @@ joined-split m (suc n) f =
 pub joined-set : (n i c : ℕ) (f : ℕ → ℕ) → i < n
     → joined_down n (λ j. pick (eqb j i) c (f j)) + f i * 2 ^ (n - suc i) ≡ joined_down n f + c * 2 ^ (n - suc i)
 unfolding joined_down
+joined-set zero i c f h = elim h [ ]
 joined-set (suc n) i c f h = by (joined-set n i c f) (eqb n i) refl
   where
     set : ℕ → ℕ

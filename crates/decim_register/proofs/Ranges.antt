@@ -15,17 +15,17 @@ pub of-bits : (f : ℕ → ℕ) → ((j : ℕ) → Bit (f j)) → RegisterIn (of
 unfolding of_bits
 of-bits f h = record { six = refl; cells = all-tab 6 _ (λ i q. joined-below 32 _ (λ j k. h (32 * i + j))) }
 
-moved_in : (w : List ℕ) {r : ℕ} → Bit r → RegisterIn (moved_in w r)
+moved_in_lem : (w : List ℕ) {r : ℕ} → Bit r → RegisterIn (moved_in w r)
 unfolding moved_in
-moved_in w h = of-bits _ (λ j. either (ltb j 191) _ _ (bit-of w (j + 1)) h)
+moved_in_lem w h = of-bits _ (λ j. either (ltb j 191) _ _ (bit-of w (j + 1)) h)
 
 mixed-in : (w : List ℕ) → RegisterIn w → RegisterIn (mixed w)
 unfolding mixed
-mixed-in w h = moved_in w (l-lf-bit w)
+mixed-in w h = moved_in_lem w (l-lf-bit w)
 
 clocked-in : (w : List ℕ) → RegisterIn w → RegisterIn (clocked w)
 unfolding clocked
-clocked-in w h = moved_in w (l-bit w)
+clocked-in w h = moved_in_lem w (l-bit w)
 
 pub turns-in : (k : ℕ) (w : List ℕ) → RegisterIn w → RegisterIn (iter k clocked w)
 turns-in k w h = iter-keeps RegisterIn clocked clocked-in k w h

@@ -26,6 +26,7 @@ use Rattle.decim_register.proofs.Weights.{either, Bit, xor-bit, l-bit, bit-of}
 
 pub joined_at : (n : ℕ) (f : ℕ → ℕ) → ((j : ℕ) → Bit (f j)) → (k : ℕ) → k < n → joined_down n f / 2 ^ (n - suc k) % 2 ≡ f k
 unfolding joined_down
+joined_at zero f b k h = elim h [ ]
 joined_at (suc n) f b k h = by (joined_at n f b k) (eqb n k) refl
   where
     by : (k < n → joined_down n f / 2 ^ (n - suc k) % 2 ≡ f k) → (t : Bool) → eqb n k ≡ t → (joined_down n f * 2 + f n) / 2 ^ (suc n - suc k) % 2 ≡ f k

@@ -1,4 +1,5 @@
-// The card for programs in C and Rust: a card is an array of words that the caller keeps, all zero for a fresh card, and `pipeshear_call` takes a call.
+// The card for programs in C and Rust, which crates/pipeshear_c exports: a card is an array of words that the caller keeps, all zero for a fresh card, and
+// `pipeshear_call` takes a call.
 // Nothing is asked of the caller: any card, buffers and counts get an answer.
 #![tactic(auto)]
 
@@ -22,8 +23,7 @@ fn put_counts(command: usize, text: usize, written: usize, counts: &mut [usize])
 
 // A call on a card's words. Returns the code. The three counts are the bytes used of command and of data, and the bytes written to out; they are zeros
 // where the code is not 0. 255 where card has not a card's words or counts not three; then counts that are not three stay as they are.
-#[unsafe(no_mangle)]
-pub extern "C" fn pipeshear_call<'a>(
+pub fn pipeshear_call<'a>(
     card: &mut [u32],
     command: &'a [u8],
     tray: &'a [u8],

@@ -1,10 +1,9 @@
-// The pair that seals and opens records, for programs in C and Rust: each slice is a pointer and a length.
+// The pair that seals and opens records, for programs in C and Rust.
 // Nothing is asked of the caller: any cipher, lengths and buffers get an answer.
 ghost use Rattle.seal_calls.specs.Seals.{SealPromise, UnsealPromise};
 
 // A message sealed. Returns the code; 255 where an array has not its length, and then nothing is changed.
-#[unsafe(no_mangle)]
-pub extern "C" fn pipeshear_seal(
+pub fn pipeshear_seal(
     cipher: u8,
     key: &[u8],
     iv: &[u8],
@@ -20,8 +19,7 @@ pub extern "C" fn pipeshear_seal(
 }
 
 // A sealed message opened. Returns the code; 255 where an array has not its length, and then nothing is changed.
-#[unsafe(no_mangle)]
-pub extern "C" fn pipeshear_unseal(
+pub fn pipeshear_unseal(
     cipher: u8,
     key: &[u8],
     iv: &[u8],

@@ -137,6 +137,7 @@ record-few x = let h = by (used_by x.card (did x)) (recorded-by x) in omega (ari
     by : (us : List Use) → Recorded x us → length us ≤ pick (eqb x.code 0) 1 0
     by [] recorded-none = omega arith
     by (u ∷ []) (recorded-one e) = let z : ◌≡◌ {A = ℕ} (pick (eqb x.code 0) 1 0) 1 = ap (λ (b : Bool). pick b 1 0) (eq-eqb x.code 0 e) in omega arith
+    by (u ∷ (_ ∷ _)) r = elim r [ ]
 
 -- its number is that of some bytes of data
 pub record-fits : (x : Made) → length x.call.text < 2 ^ 64 → Fit (used_by x.card (did x))
@@ -147,3 +148,4 @@ record-fits x h = by (used_by x.card (did x)) (recorded-by x)
     by (u ∷ []) (recorded-one e) =
         let q : length (take x.used-data x.call.text) < 2 ^ 64 = omega (arith, length-take x.used-data x.call.text, min-le_right x.used-data (length x.call.text)) in
         more q none
+    by (u ∷ (_ ∷ _)) r = elim r [ ]

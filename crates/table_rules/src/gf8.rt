@@ -1,8 +1,8 @@
 // GF(2^8) over a polynomial p of degree 8, worked out digit by digit: products, the inverse, AES's substitution, and a word times an element.
 ghost use Rattle.std.specs.Prelude.{◌≡◌};
 ghost use Rattle.field.specs.Gf2.{if_one, times_x};
-ghost use Rattle.field.specs.Gf8.{mul8, inverse as Gf8·inverse};
-ghost use Rattle.field.specs.Gf32.{scaled as Gf32·scaled};
+ghost use Rattle.field.specs.Gf8.{mul8, inverse as inverse_of};
+ghost use Rattle.field.specs.Gf32.{scaled as scaled_by};
 ghost use Rattle.field.specs.Aes.{affine};
 
 // The digit d times a.
@@ -42,7 +42,7 @@ pub fn product(p: u16, a: u8, b: u8) -> u8
 
 // 1/a modulo p, and 0 of 0: the product of a^2, a^4, .., a^128.
 pub fn inverse(p: u16, a: u8) -> u8
-    ensures { result ≡ Gf8·inverse p a }
+    ensures { result ≡ inverse_of p a }
 {
     let mut r: u8 = 1;
     let mut s = a;
@@ -68,14 +68,14 @@ fn mapped(a: u8) -> u8
 
 // What AES's substitution makes of a, over p.
 pub fn substituted(p: u16, a: u8) -> u8
-    ensures { result ≡ affine (Gf8·inverse p a) }
+    ensures { result ≡ affine (inverse_of p a) }
 {
     mapped(inverse(p, a))
 }
 
 // The word w times k, over p.
 pub fn scaled(p: u16, k: u8, w: u32) -> u32
-    ensures { result ≡ Gf32·scaled p k w }
+    ensures { result ≡ scaled_by p k w }
 {
     let b = words::bytes(w);
     words::join(

@@ -30,12 +30,12 @@ use Rattle.card_change.proofs.run_change.Goals as goal
 
 pub returns-then-code-ne0 : goal.returns-then-code-ne0
 returns-then-code-ne0 c =
-    λ t o. by-rows c.args.card.now (change-decided c.args.card.now c.args.i c.args.number c.args.p c.args.command.now c.args.tray.now t o) (given-rows c.args.card.now t o ((change_rows ((line_on (card_in c.args.card.now) c.args.i)).mode ((line_on (card_in c.args.card.now) c.args.i)).n ((line_on (card_in c.args.card.now) c.args.i)).due c.args.p)) _ ((let it : c.change_code-code.result ≡ code_of ((change_rows ((line_on (card_in c.args.card.now) c.args.i)).mode ((line_on (card_in c.args.card.now) c.args.i)).n ((line_on (card_in c.args.card.now) c.args.i)).due c.args.p)) = c.change_code-code.ensures ∙ ap (λ (m : ℕ). code_of (change_rows m c.position_at-n.result c.due_at-due.result c.args.p)) c.mode_at-mode.ensures ∙ ap₂ (λ (n x : ℕ). code_of (change_rows ((line_on (card_in c.args.card.now) c.args.i)).mode n x c.args.p)) c.position_at-n.ensures c.due_at-due.ensures in it)) c.if-code-ne0.true c.refused.ensures)
+    λ t o. by-rows c.args.card.now _ _ (change-decided c.args.card.now c.args.i c.args.number c.args.p c.args.command.now c.args.tray.now t o) (given-rows c.args.card.now t o ((change_rows ((line_on (card_in c.args.card.now) c.args.i)).mode ((line_on (card_in c.args.card.now) c.args.i)).n ((line_on (card_in c.args.card.now) c.args.i)).due c.args.p)) _ ((let it : c.change_code-code.result ≡ code_of ((change_rows ((line_on (card_in c.args.card.now) c.args.i)).mode ((line_on (card_in c.args.card.now) c.args.i)).n ((line_on (card_in c.args.card.now) c.args.i)).due c.args.p)) = c.change_code-code.ensures ∙ ap (λ (m : ℕ). code_of (change_rows m c.position_at-n.result c.due_at-due.result c.args.p)) c.mode_at-mode.ensures ∙ ap₂ (λ (n x : ℕ). code_of (change_rows ((line_on (card_in c.args.card.now) c.args.i)).mode n x c.args.p)) c.position_at-n.ensures c.due_at-due.ensures in it)) c.if-code-ne0.true c.refused.ensures)
 
 pub returns-then-none-ne0 : goal.returns-then-none-ne0
 returns-then-none-ne0 c =
-    λ t o. by-rows c.args.card.now (change-decided c.args.card.now c.args.i c.args.number c.args.p c.args.command.now c.args.tray.now t o)
-    (given-passed c.args.card.now t o ((change_rows ((line_on (card_in c.args.card.now) c.args.i)).mode ((line_on (card_in c.args.card.now) c.args.i)).n ((line_on (card_in c.args.card.now) c.args.i)).due c.args.p)) _ ((let it : AllPassed ((change_rows ((line_on (card_in c.args.card.now) c.args.i)).mode ((line_on (card_in c.args.card.now) c.args.i)).n ((line_on (card_in c.args.card.now) c.args.i)).due c.args.p)) = code-passed ((change_rows ((line_on (card_in c.args.card.now) c.args.i)).mode ((line_on (card_in c.args.card.now) c.args.i)).n ((line_on (card_in c.args.card.now) c.args.i)).due c.args.p)) tt (sym ((let it : c.change_code-code.result ≡ code_of ((change_rows ((line_on (card_in c.args.card.now) c.args.i)).mode ((line_on (card_in c.args.card.now) c.args.i)).n ((line_on (card_in c.args.card.now) c.args.i)).due c.args.p)) = c.change_code-code.ensures ∙ ap (λ (m : ℕ). code_of (change_rows m c.position_at-n.result c.due_at-due.result c.args.p)) c.mode_at-mode.ensures ∙ ap₂ (λ (n x : ℕ). code_of (change_rows ((line_on (card_in c.args.card.now) c.args.i)).mode n x c.args.p)) c.position_at-n.ensures c.due_at-due.ensures in it)) ∙ c.if-code-ne0.false) in it)) (given-rows c.args.card.now t o ((tray_rows (length c.args.tray.now) c.args.number)) ((λ c. change_with c.args.i c.args.p change_length c (key_bytes false (key_length * c.args.number) c.args.tray.now c.args.command.now) (take iv_length (drop change_iv c.args.command.now))) ((line_on (card_in c.args.card.now) c.args.i)).cipher) c.tray_code-none.ensures c.if-none-ne0.true c.refused-then-none-ne0.ensures))
+    λ t o. by-rows c.args.card.now _ _ (change-decided c.args.card.now c.args.i c.args.number c.args.p c.args.command.now c.args.tray.now t o)
+    (given-passed c.args.card.now t o ((change_rows ((line_on (card_in c.args.card.now) c.args.i)).mode ((line_on (card_in c.args.card.now) c.args.i)).n ((line_on (card_in c.args.card.now) c.args.i)).due c.args.p)) _ ((let it : AllPassed ((change_rows ((line_on (card_in c.args.card.now) c.args.i)).mode ((line_on (card_in c.args.card.now) c.args.i)).n ((line_on (card_in c.args.card.now) c.args.i)).due c.args.p)) = code-passed ((change_rows ((line_on (card_in c.args.card.now) c.args.i)).mode ((line_on (card_in c.args.card.now) c.args.i)).n ((line_on (card_in c.args.card.now) c.args.i)).due c.args.p)) tt (sym ((let it : c.change_code-code.result ≡ code_of ((change_rows ((line_on (card_in c.args.card.now) c.args.i)).mode ((line_on (card_in c.args.card.now) c.args.i)).n ((line_on (card_in c.args.card.now) c.args.i)).due c.args.p)) = c.change_code-code.ensures ∙ ap (λ (m : ℕ). code_of (change_rows m c.position_at-n.result c.due_at-due.result c.args.p)) c.mode_at-mode.ensures ∙ ap₂ (λ (n x : ℕ). code_of (change_rows ((line_on (card_in c.args.card.now) c.args.i)).mode n x c.args.p)) c.position_at-n.ensures c.due_at-due.ensures in it)) ∙ c.if-code-ne0.false) in it)) (given-rows c.args.card.now t o ((tray_rows (length c.args.tray.now) c.args.number)) (change_with c.args.i c.args.p change_length ((line_on (card_in c.args.card.now) c.args.i)).cipher (key_bytes false (key_length * c.args.number) c.args.tray.now c.args.command.now) (take iv_length (drop change_iv c.args.command.now))) c.tray_code-none.ensures c.if-none-ne0.true c.refused-then-none-ne0.ensures))
 
 pub returns-in_default : goal.returns-in_default
 returns-in_default c =
@@ -48,7 +48,7 @@ change_line-requires c =
 
 pub returns : goal.returns
 returns c =
-    λ t o. by-rows c.args.card.now (change-decided c.args.card.now c.args.i c.args.number c.args.p c.args.command.now c.args.tray.now t o)
+    λ t o. by-rows c.args.card.now _ _ (change-decided c.args.card.now c.args.i c.args.number c.args.p c.args.command.now c.args.tray.now t o)
     (given-passed c.args.card.now t o ((change_rows ((line_on (card_in c.args.card.now) c.args.i)).mode ((line_on (card_in c.args.card.now) c.args.i)).n ((line_on (card_in c.args.card.now) c.args.i)).due c.args.p)) _ ((let it : AllPassed ((change_rows ((line_on (card_in c.args.card.now) c.args.i)).mode ((line_on (card_in c.args.card.now) c.args.i)).n ((line_on (card_in c.args.card.now) c.args.i)).due c.args.p)) = code-passed ((change_rows ((line_on (card_in c.args.card.now) c.args.i)).mode ((line_on (card_in c.args.card.now) c.args.i)).n ((line_on (card_in c.args.card.now) c.args.i)).due c.args.p)) tt (sym ((let it : c.change_code-code.result ≡ code_of ((change_rows ((line_on (card_in c.args.card.now) c.args.i)).mode ((line_on (card_in c.args.card.now) c.args.i)).n ((line_on (card_in c.args.card.now) c.args.i)).due c.args.p)) = c.change_code-code.ensures ∙ ap (λ (m : ℕ). code_of (change_rows m c.position_at-n.result c.due_at-due.result c.args.p)) c.mode_at-mode.ensures ∙ ap₂ (λ (n x : ℕ). code_of (change_rows ((line_on (card_in c.args.card.now) c.args.i)).mode n x c.args.p)) c.position_at-n.ensures c.due_at-due.ensures in it)) ∙ c.if-code-ne0.false) in it))
-    (given-passed c.args.card.now t o ((tray_rows (length c.args.tray.now) c.args.number)) ((λ c. change_with c.args.i c.args.p change_length c (key_bytes false (key_length * c.args.number) c.args.tray.now c.args.command.now) (take iv_length (drop change_iv c.args.command.now))) ((line_on (card_in c.args.card.now) c.args.i)).cipher) (code-passed ((tray_rows (length c.args.tray.now) c.args.number)) tt (sym c.tray_code-none.ensures ∙ c.if-none-ne0.false))
-    (by-rows c.args.card.now (ap (λ (x : ℕ). change_with c.args.i c.args.p change_length x (key_bytes false (key_length * c.args.number) c.args.tray.now c.args.command.now) (take iv_length (drop change_iv c.args.command.now))) ((let it : ((line_on (card_in c.args.card.now) c.args.i)).cipher ≡ number_of c.in-Is.cipher = sym c.cipher_at-named.ensures ∙ (read_is _ (sym c.read_cipher.ensures ∙ c.in-Is.is)).0 in it))) (c.change_line.ensures t o))))
+    (given-passed c.args.card.now t o ((tray_rows (length c.args.tray.now) c.args.number)) (change_with c.args.i c.args.p change_length ((line_on (card_in c.args.card.now) c.args.i)).cipher (key_bytes false (key_length * c.args.number) c.args.tray.now c.args.command.now) (take iv_length (drop change_iv c.args.command.now))) (code-passed ((tray_rows (length c.args.tray.now) c.args.number)) tt (sym c.tray_code-none.ensures ∙ c.if-none-ne0.false))
+    (by-rows c.args.card.now _ _ (ap (λ (x : ℕ). change_with c.args.i c.args.p change_length x (key_bytes false (key_length * c.args.number) c.args.tray.now c.args.command.now) (take iv_length (drop change_iv c.args.command.now))) ((let it : ((line_on (card_in c.args.card.now) c.args.i)).cipher ≡ number_of c.in-Is.cipher = sym c.cipher_at-named.ensures ∙ (read_is _ (sym c.read_cipher.ensures ∙ c.in-Is.is)).0 in it))) (c.change_line.ensures t o))))

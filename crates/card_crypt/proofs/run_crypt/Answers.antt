@@ -27,7 +27,7 @@ use Rattle.card_crypt.proofs.run_crypt.Goals as goal
 
 pub returns-then-code-ne0 : goal.returns-then-code-ne0
 returns-then-code-ne0 c =
-    λ command tray. by-rows c.args.card.now (crypt-decided c.args.card.now c.args.i c.args.count command tray c.args.«data».now c.args.out.now)
+    λ command tray. by-rows c.args.card.now _ _ (crypt-decided c.args.card.now c.args.i c.args.count command tray c.args.«data».now c.args.out.now)
     (given-rows c.args.card.now c.args.«data».now c.args.out.now ((crypt_rows ((line_on (card_in c.args.card.now) c.args.i)).mode ((line_on (card_in c.args.card.now) c.args.i)).n ((line_on (card_in c.args.card.now) c.args.i)).due c.args.count (length c.args.«data».now) (length c.args.out.now))) (crypt c.args.i c.args.count crypt_length) ((let it : c.crypt_code-code.result ≡ code_of ((crypt_rows ((line_on (card_in c.args.card.now) c.args.i)).mode ((line_on (card_in c.args.card.now) c.args.i)).n ((line_on (card_in c.args.card.now) c.args.i)).due c.args.count (length c.args.«data».now) (length c.args.out.now))) = let t = length c.args.«data».now in let o = length c.args.out.now in c.crypt_code-code.ensures ∙ ap (λ (m : ℕ). code_of (crypt_rows m c.position_at-n.result c.due_at-due.result c.args.count t o)) c.mode_at-mode.ensures ∙ ap₂ (λ (n x : ℕ). code_of (crypt_rows ((line_on (card_in c.args.card.now) c.args.i)).mode n x c.args.count t o)) c.position_at-n.ensures c.due_at-due.ensures in it)) c.if-code-ne0.true c.refused.ensures)
 
 pub slice_bounds-encipher_text-end-2 : goal.slice_bounds-encipher_text-end-2
@@ -54,6 +54,6 @@ returns c =
     let full = sym (ap (λ (x : Line). length x.words) next) ∙ c.encipher_text.ensures.full in
     let put = part-put c.args.card.now c.args.i c.requires.1 c.requires.0.size _ _ (c.encipher_text.ensures.words_are ∙ ap line_words next) in
     let out = c.encipher_text.ensures.out-is ∙ ap₂ (λ (x : Line) (j : ℕ). enciphered (based x) (take c.args.count c.args.«data».now) ++ drop j c.args.out.now) i n in
-    λ command tray. by-rows c.args.card.now (crypt-decided c.args.card.now c.args.i c.args.count command tray c.args.«data».now c.args.out.now)
+    λ command tray. by-rows c.args.card.now _ _ (crypt-decided c.args.card.now c.args.i c.args.count command tray c.args.«data».now c.args.out.now)
     (given-passed c.args.card.now c.args.«data».now c.args.out.now ((crypt_rows ((line_on (card_in c.args.card.now) c.args.i)).mode ((line_on (card_in c.args.card.now) c.args.i)).n ((line_on (card_in c.args.card.now) c.args.i)).due c.args.count (length c.args.«data».now) (length c.args.out.now))) _ (code-passed ((crypt_rows ((line_on (card_in c.args.card.now) c.args.i)).mode ((line_on (card_in c.args.card.now) c.args.i)).n ((line_on (card_in c.args.card.now) c.args.i)).due c.args.count (length c.args.«data».now) (length c.args.out.now))) tt (sym ((let it : c.crypt_code-code.result ≡ code_of ((crypt_rows ((line_on (card_in c.args.card.now) c.args.i)).mode ((line_on (card_in c.args.card.now) c.args.i)).n ((line_on (card_in c.args.card.now) c.args.i)).due c.args.count (length c.args.«data».now) (length c.args.out.now))) = let t = length c.args.«data».now in let o = length c.args.out.now in c.crypt_code-code.ensures ∙ ap (λ (m : ℕ). code_of (crypt_rows m c.position_at-n.result c.due_at-due.result c.args.count t o)) c.mode_at-mode.ensures ∙ ap₂ (λ (n x : ℕ). code_of (crypt_rows ((line_on (card_in c.args.card.now) c.args.i)).mode n x c.args.count t o)) c.position_at-n.ensures c.due_at-due.ensures in it)) ∙ c.if-code-ne0.false))
     (given-crypt c.args.card.now c.args.«data».now c.args.out.now c.requires.0 c.args.i c.requires.1 c.args.count 4 ((let it : CryptPassed ((line_on (card_in c.args.card.now) c.args.i)).mode ((line_on (card_in c.args.card.now) c.args.i)).n ((line_on (card_in c.args.card.now) c.args.i)).due c.args.count (length c.args.«data».now) (length c.args.out.now) = crypt-passed _ _ _ _ _ _ (sym ((let it : c.crypt_code-code.result ≡ code_of ((crypt_rows ((line_on (card_in c.args.card.now) c.args.i)).mode ((line_on (card_in c.args.card.now) c.args.i)).n ((line_on (card_in c.args.card.now) c.args.i)).due c.args.count (length c.args.«data».now) (length c.args.out.now))) = let t = length c.args.«data».now in let o = length c.args.out.now in c.crypt_code-code.ensures ∙ ap (λ (m : ℕ). code_of (crypt_rows m c.position_at-n.result c.due_at-due.result c.args.count t o)) c.mode_at-mode.ensures ∙ ap₂ (λ (n x : ℕ). code_of (crypt_rows ((line_on (card_in c.args.card.now) c.args.i)).mode n x c.args.count t o)) c.position_at-n.ensures c.due_at-due.ensures in it)) ∙ c.if-code-ne0.false) in it)).text_in _ refl (moved_plain l c.args.count (sound-plain c.args.card.now c.requires.0 c.args.i c.requires.1) full) put out c.accepted.ensures))

@@ -13,11 +13,10 @@ use borrow.Author.Rules.{rules}
 use Rattle.card_fields.proofs.words_in.Goals as goal
 
 pub loop-i-preserved : goal.loop-i-preserved
-loop-i-preserved c =
-    (
-      search rules,
-      rw (c.word_at.ensures, c.loop-i.invariant.1) (fill c.loop-i.i (λ k. word_at c.args.s.now (14 + 4 * k)) (replicate 38 0) (search rules)),
-    )
+loop-i-preserved c = (
+  search rules,
+  rw (c.word_at.ensures, c.loop-i.invariant.1) (fill c.loop-i.i (λ k. word_at c.args.s.now (14 + 4 * k)) (replicate 38 0) (search rules)),
+)
 
 pub loop-i-init : goal.loop-i-init
 loop-i-init c = (search rules, refl)

@@ -1,5 +1,6 @@
 -- `card_load::keep` meets its contract: Rabbit keeps its state, and the other ciphers the bytes of the key, which are whole words.
 -- Assumes nothing.
+use borrow.Enum.Refused.{opened}
 use mathlib.Core.Path.{ap, ◌∙◌}
 use Prim.Native.Nat.{ℕ, ◌%◌}
 use native.Mathlib.Omega.{arith}
@@ -23,4 +24,4 @@ returns-in-Rabbit c = rabbit-kept c.args.key.now c.in-Rabbit.is c.keep.ensures
 
 pub returns-in_default : goal.returns-in_default
 returns-in_default c =
-    key-kept c.args.c c.in_default.in_default-own.keys2 c.args.key.now c.key_words.ensures
+    key-kept c.args.c (opened c.in_default.in_default-own.keys2) c.args.key.now c.key_words.ensures

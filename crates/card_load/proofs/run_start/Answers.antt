@@ -26,7 +26,7 @@ use Rattle.card_load.proofs.run_start.Goals as goal
 
 pub returns-then-mode-ne2 : goal.returns-then-mode-ne2
 returns-then-mode-ne2 c =
-    λ y t o. by-rows c.args.card.now (start-decided c.args.card.now c.args.i c.args.command.now y t o ∙ sym (ap₂ (λ (x z : ℕ). start_with c.args.i x z (take iv_length (drop start_iv c.args.command.now))) c.mode_at-mode.ensures refl))
+    λ y t o. by-rows c.args.card.now _ _ (start-decided c.args.card.now c.args.i c.args.command.now y t o ∙ sym (ap₂ (λ (x z : ℕ). start_with c.args.i x z (take iv_length (drop start_iv c.args.command.now))) c.mode_at-mode.ensures refl))
     (given-true c.args.card.now t o _ 19 _ (ap not (ne_eqb _ 2 c.if-mode-ne2.true)) (given-refusal c.args.card.now t o 19 (λ z. omega arith) c.refused.ensures))
 
 pub returns-in_default : goal.returns-in_default
@@ -40,4 +40,4 @@ start_line-requires c =
 
 pub returns : goal.returns
 returns c =
-    λ y t o. by-rows c.args.card.now (start-decided c.args.card.now c.args.i c.args.command.now y t o ∙ sym (ap₂ (λ (x z : ℕ). start_with c.args.i x z (take iv_length (drop start_iv c.args.command.now))) (sym ((let it : ((line_on (card_in c.args.card.now) c.args.i)).mode ≡ 2 = sym c.mode_at-mode.ensures ∙ c.if-mode-ne2.false in it))) (sym ((let it : ((line_on (card_in c.args.card.now) c.args.i)).cipher ≡ number_of c.in-Is.cipher = sym c.cipher_at-named.ensures ∙ (read_is _ (sym c.read_cipher.ensures ∙ c.in-Is.is)).0 in it))))) (c.start_line.ensures t o)
+    λ y t o. by-rows c.args.card.now _ _ (start-decided c.args.card.now c.args.i c.args.command.now y t o ∙ sym (ap₂ (λ (x z : ℕ). start_with c.args.i x z (take iv_length (drop start_iv c.args.command.now))) (sym ((let it : ((line_on (card_in c.args.card.now) c.args.i)).mode ≡ 2 = sym c.mode_at-mode.ensures ∙ c.if-mode-ne2.false in it))) (sym ((let it : ((line_on (card_in c.args.card.now) c.args.i)).cipher ≡ number_of c.in-Is.cipher = sym c.cipher_at-named.ensures ∙ (read_is _ (sym c.read_cipher.ensures ∙ c.in-Is.is)).0 in it))))) (c.start_line.ensures t o)

@@ -1,5 +1,6 @@
 -- `card_load::start` meets its contract: Rabbit goes on from its state, and the other ciphers from the key that the words spell.
 -- Assumes nothing.
+use borrow.Enum.Refused.{opened}
 use mathlib.Core.Path.{◌≡◌, sym}
 use native.Mathlib.Omega.{arith}
 use lib.ListN.{length, take}
@@ -19,4 +20,4 @@ returns-in-Rabbit c = rabbit-started c.args.kept.now c.args.iv.now c.in-Rabbit.i
 
 pub returns-in_default : goal.returns-in_default
 returns-in_default c =
-    key-started c.args.c c.in_default.in_default-own.keys2 c.args.kept.now _ c.start_spelt.ensures
+    key-started c.args.c (opened c.in_default.in_default-own.keys2) c.args.kept.now _ c.start_spelt.ensures

@@ -26,16 +26,16 @@ use Rattle.card_open.proofs.run_tray.Goals as goal
 
 pub returns-then-mode-ne0 : goal.returns-then-mode-ne0
 returns-then-mode-ne0 c =
-    λ t o. by-rows c.args.card.now (tray-decided c.args.card.now c.args.i c.args.cipher c.args.number c.args.command.now c.args.tray.now t o c.mode_at-mode.ensures) (given-true c.args.card.now t o _ 5 _ (ap not (ne_eqb _ 0 c.if-mode-ne0.true)) (given-refusal c.args.card.now t o 5 (λ z. omega arith) c.refused.ensures))
+    λ t o. by-rows c.args.card.now _ _ (tray-decided c.args.card.now c.args.i c.args.cipher c.args.number c.args.command.now c.args.tray.now t o c.mode_at-mode.ensures) (given-true c.args.card.now t o _ 5 _ (ap not (ne_eqb _ 0 c.if-mode-ne0.true)) (given-refusal c.args.card.now t o 5 (λ z. omega arith) c.refused.ensures))
 
 pub returns-then-code-ne0 : goal.returns-then-code-ne0
 returns-then-code-ne0 c =
-    λ t o. by-rows c.args.card.now (tray-decided c.args.card.now c.args.i c.args.cipher c.args.number c.args.command.now c.args.tray.now t o c.mode_at-mode.ensures)
+    λ t o. by-rows c.args.card.now _ _ (tray-decided c.args.card.now c.args.i c.args.cipher c.args.number c.args.command.now c.args.tray.now t o c.mode_at-mode.ensures)
     (given-false c.args.card.now t o _ 5 _ ((let it : not (eqb c.mode_at-mode.result 0) ≡ false = ap not (eq-eqb _ 0 c.if-mode-ne0.false) in it)) (given-rows c.args.card.now t o ((tray_rows (length c.args.tray.now) c.args.number)) ((open_with c.args.i tray_length (number_of c.args.cipher) (key_bytes false (key_length * c.args.number) c.args.tray.now c.args.command.now) (take iv_length (drop tray_iv c.args.command.now)))) c.tray_code-code.ensures c.if-code-ne0.true c.refused-then-code-ne0.ensures))
 
 pub returns : goal.returns
 returns c =
-    λ t o. by-rows c.args.card.now (tray-decided c.args.card.now c.args.i c.args.cipher c.args.number c.args.command.now c.args.tray.now t o c.mode_at-mode.ensures)
+    λ t o. by-rows c.args.card.now _ _ (tray-decided c.args.card.now c.args.i c.args.cipher c.args.number c.args.command.now c.args.tray.now t o c.mode_at-mode.ensures)
     (given-false c.args.card.now t o _ 5 _ ((let it : not (eqb c.mode_at-mode.result 0) ≡ false = ap not (eq-eqb _ 0 c.if-mode-ne0.false) in it))
     (given-passed c.args.card.now t o ((tray_rows (length c.args.tray.now) c.args.number)) ((open_with c.args.i tray_length (number_of c.args.cipher) (key_bytes false (key_length * c.args.number) c.args.tray.now c.args.command.now) (take iv_length (drop tray_iv c.args.command.now)))) (code-passed ((tray_rows (length c.args.tray.now) c.args.number)) tt (sym c.tray_code-code.ensures ∙ c.if-code-ne0.false)) (c.open_line.ensures t o)))
 

@@ -29,17 +29,17 @@ use Rattle.card_park.proofs.run_park.Goals as goal
 
 pub returns-then-code-ne0 : goal.returns-then-code-ne0
 returns-then-code-ne0 c =
-    λ m y t. by-rows c.args.card.now (park-decided c.args.card.now c.args.i m y t c.args.out.now) (given-rows c.args.card.now t c.args.out.now ((park_rows ((line_on (card_in c.args.card.now) c.args.i)).mode ((line_on (card_in c.args.card.now) c.args.i)).due)) ((park_with c.args.i (no_more (public_of c.args.card.now).parks c.args.i) (length c.args.out.now))) ((let it : c.park_code-code.result ≡ code_of ((park_rows ((line_on (card_in c.args.card.now) c.args.i)).mode ((line_on (card_in c.args.card.now) c.args.i)).due)) = c.park_code-code.ensures ∙ ap₂ (λ (m x : ℕ). code_of (park_rows m x)) c.mode_at-mode.ensures c.due_at-due.ensures in it)) c.if-code-ne0.true c.refused.ensures)
+    λ m y t. by-rows c.args.card.now _ _ (park-decided c.args.card.now c.args.i m y t c.args.out.now) (given-rows c.args.card.now t c.args.out.now ((park_rows ((line_on (card_in c.args.card.now) c.args.i)).mode ((line_on (card_in c.args.card.now) c.args.i)).due)) ((park_with c.args.i (no_more (public_of c.args.card.now).parks c.args.i) (length c.args.out.now))) ((let it : c.park_code-code.result ≡ code_of ((park_rows ((line_on (card_in c.args.card.now) c.args.i)).mode ((line_on (card_in c.args.card.now) c.args.i)).due)) = c.park_code-code.ensures ∙ ap₂ (λ (m x : ℕ). code_of (park_rows m x)) c.mode_at-mode.ensures c.due_at-due.ensures in it)) c.if-code-ne0.true c.refused.ensures)
 
 pub returns-then-count-ge-LAST_PARK : goal.returns-then-count-ge-LAST_PARK
 returns-then-count-ge-LAST_PARK c =
-    λ m y t. by-rows c.args.card.now (park-decided c.args.card.now c.args.i m y t c.args.out.now)
+    λ m y t. by-rows c.args.card.now _ _ (park-decided c.args.card.now c.args.i m y t c.args.out.now)
     (given-passed c.args.card.now t c.args.out.now ((park_rows ((line_on (card_in c.args.card.now) c.args.i)).mode ((line_on (card_in c.args.card.now) c.args.i)).due)) ((park_with c.args.i (no_more (public_of c.args.card.now).parks c.args.i) (length c.args.out.now))) ((let it : AllPassed ((park_rows ((line_on (card_in c.args.card.now) c.args.i)).mode ((line_on (card_in c.args.card.now) c.args.i)).due)) = code-passed ((park_rows ((line_on (card_in c.args.card.now) c.args.i)).mode ((line_on (card_in c.args.card.now) c.args.i)).due)) tt (sym ((let it : c.park_code-code.result ≡ code_of ((park_rows ((line_on (card_in c.args.card.now) c.args.i)).mode ((line_on (card_in c.args.card.now) c.args.i)).due)) = c.park_code-code.ensures ∙ ap₂ (λ (m x : ℕ). code_of (park_rows m x)) c.mode_at-mode.ensures c.due_at-due.ensures in it)) ∙ c.if-code-ne0.false) in it))
     (given-true c.args.card.now t c.args.out.now _ 15 _ ((let it : (b : Bool) → leb last_park c.park_count-count.result ≡ b → no_more (public_of c.args.card.now).parks c.args.i ≡ b = full_is c.args.card.now c.args.i c.park_count-count.ensures in it) true (le-leb _ _ c.if-count-ge-LAST_PARK.true)) (given-refusal c.args.card.now t c.args.out.now 15 (λ z. omega arith) c.refused-then-count-ge-LAST_PARK.ensures)))
 
 pub returns-then-out-lt-IMAGE : goal.returns-then-out-lt-IMAGE
 returns-then-out-lt-IMAGE c =
-    λ m y t. by-rows c.args.card.now (park-decided c.args.card.now c.args.i m y t c.args.out.now)
+    λ m y t. by-rows c.args.card.now _ _ (park-decided c.args.card.now c.args.i m y t c.args.out.now)
     (given-passed c.args.card.now t c.args.out.now ((park_rows ((line_on (card_in c.args.card.now) c.args.i)).mode ((line_on (card_in c.args.card.now) c.args.i)).due)) ((park_with c.args.i (no_more (public_of c.args.card.now).parks c.args.i) (length c.args.out.now))) ((let it : AllPassed ((park_rows ((line_on (card_in c.args.card.now) c.args.i)).mode ((line_on (card_in c.args.card.now) c.args.i)).due)) = code-passed ((park_rows ((line_on (card_in c.args.card.now) c.args.i)).mode ((line_on (card_in c.args.card.now) c.args.i)).due)) tt (sym ((let it : c.park_code-code.result ≡ code_of ((park_rows ((line_on (card_in c.args.card.now) c.args.i)).mode ((line_on (card_in c.args.card.now) c.args.i)).due)) = c.park_code-code.ensures ∙ ap₂ (λ (m x : ℕ). code_of (park_rows m x)) c.mode_at-mode.ensures c.due_at-due.ensures in it)) ∙ c.if-code-ne0.false) in it))
     (given-false c.args.card.now t c.args.out.now _ 15 _ ((let it : (b : Bool) → leb last_park c.park_count-count.result ≡ b → no_more (public_of c.args.card.now).parks c.args.i ≡ b = full_is c.args.card.now c.args.i c.park_count-count.ensures in it) false (lt-leb _ _ c.if-count-ge-LAST_PARK.false))
     (given-true c.args.card.now t c.args.out.now _ 12 _ (lt-ltb _ _ c.if-out-lt-IMAGE.true) (given-refusal c.args.card.now t c.args.out.now 12 (λ z. omega arith) c.refused-then-out-lt-IMAGE.ensures))))
@@ -61,7 +61,7 @@ returns c =
     let n = ap₂ (λ (j : ℕ) (x : Line). length (image_of c.args.i j x)) (sym q) (sym i) ∙ c.put.ensures.0 in
     let v = c.put.ensures.1 ∙ ap₂ (λ (j : ℕ) (x : Line). image_of c.args.i j x ++ drop image_length c.args.out.now) q i in
     let ws = c.put_parked.ensures ∙ ap (λ (x : List ℕ). put_parks x (parked (card_in x).parks c.args.i)) c.clear_line.ensures in
-    λ m y t. by-rows c.args.card.now (park-decided c.args.card.now c.args.i m y t c.args.out.now)
+    λ m y t. by-rows c.args.card.now _ _ (park-decided c.args.card.now c.args.i m y t c.args.out.now)
     (given-passed c.args.card.now t c.args.out.now ((park_rows ((line_on (card_in c.args.card.now) c.args.i)).mode ((line_on (card_in c.args.card.now) c.args.i)).due)) ((park_with c.args.i (no_more (public_of c.args.card.now).parks c.args.i) (length c.args.out.now))) ((let it : AllPassed ((park_rows ((line_on (card_in c.args.card.now) c.args.i)).mode ((line_on (card_in c.args.card.now) c.args.i)).due)) = code-passed ((park_rows ((line_on (card_in c.args.card.now) c.args.i)).mode ((line_on (card_in c.args.card.now) c.args.i)).due)) tt (sym ((let it : c.park_code-code.result ≡ code_of ((park_rows ((line_on (card_in c.args.card.now) c.args.i)).mode ((line_on (card_in c.args.card.now) c.args.i)).due)) = c.park_code-code.ensures ∙ ap₂ (λ (m x : ℕ). code_of (park_rows m x)) c.mode_at-mode.ensures c.due_at-due.ensures in it)) ∙ c.if-code-ne0.false) in it))
     (given-false c.args.card.now t c.args.out.now _ 15 _ ((let it : (b : Bool) → leb last_park c.park_count-count.result ≡ b → no_more (public_of c.args.card.now).parks c.args.i ≡ b = full_is c.args.card.now c.args.i c.park_count-count.ensures in it) false (lt-leb _ _ c.if-count-ge-LAST_PARK.false))
     (given-false c.args.card.now t c.args.out.now _ 12 _ (le-ltb _ _ c.if-out-lt-IMAGE.false)

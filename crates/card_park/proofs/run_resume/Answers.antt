@@ -57,5 +57,5 @@ returns c =
     let ws = c.take_up.ensures ∙ ap₂ (λ (x : List ℕ) (k : ℕ). put_parks x (taken (card_in x).parks k)) put c.from_in-from.ensures in
     λ _ t o. given-false w t o _ _ _ ((let it : not (is_idle (public_of ((c.args.card.now))) c.args.i) ≡ false = (let it : (b : Bool) → eqb c.mode_at-mode.result 0 ≡ b → not (is_idle (public_of c.args.card.now) c.args.i) ≡ not b = busy-is c.args.card.now c.args.i c.mode_at-mode.ensures in it) true (eq-eqb _ _ c.if-mode-ne0.false) in it))
     (given-false w t o _ _ _ ((let it : let img = (image_in c.args.command.now) in not (both (image_ok (image_line img)) (from_ok img)) ≡ false = ap not ((let it : (b : Bool) → ltb c.from_in-from.result line_count ≡ b → let img = (image_in c.args.command.now) in both (image_ok (image_line img)) (from_ok img) ≡ b = λ b e. rw ((let it : image_ok (image_line ((image_in c.args.command.now))) ≡ true = (let it : (b : Bool) → c.open_with-ok.result ≡ b → image_ok (image_line ((image_in c.args.command.now))) ≡ b = λ b e. sym (ap image_ok ((let it : plain_line 1 c.cipher_in-cipher.result c.position_in-n.result c.words_in-state.result ≡ image_line ((image_in c.args.command.now)) = image-is ((image_in c.args.command.now)) c.cipher_in-cipher.ensures c.position_in-n.ensures c.words_in-state.ensures in it))) ∙ sym c.open_with-ok.ensures ∙ e in it) true (not-false _ c.if-not-ok.false-raw) in it)) (ap (λ (x : ℕ). ltb x line_count) (sym c.from_in-from.ensures) ∙ e) in it) true (lt-ltb _ _ c.if-from-ge-LINES.false)) in it))
-    (given-false w t o _ _ _ ((let it : (b : Bool) → c.is_held-held.result ≡ b → not (holds (public_of ((c.args.card.now))).parks (image_from ((image_in c.args.command.now))) (image_number ((image_in c.args.command.now)))) ≡ not b = λ b e. let img = (image_in c.args.command.now) in ap not (held_by ((c.args.card.now)) (image_from img) (image_number img) ∙ ap₂ (holds (card_in ((c.args.card.now))).parks) (sym c.from_in-from.ensures) (sym c.number_in-number.ensures) ∙ sym c.is_held-held.ensures ∙ e) in it) true (not-false _ c.if-not-held.false))
+    (given-false w t o _ _ _ ((let it : (b : Bool) → c.is_held-held.result ≡ b → not (holds (public_of ((c.args.card.now))).parks (image_from ((image_in c.args.command.now))) (image_number ((image_in c.args.command.now)))) ≡ not b = λ b e. let img = (image_in c.args.command.now) in ap not (held_by ((c.args.card.now)) (image_from img) (image_number img) ∙ ap₂ (holds (card_in ((c.args.card.now))).parks) (sym c.from_in-from.ensures) (sym c.number_in-number.ensures) ∙ sym c.is_held-held.ensures ∙ e) in it) true (not-false _ c.if-not-held.false-raw))
     (given-resume w t o c.requires.sound.0 c.args.i c.requires.sound.1 (image_from ((image_in c.args.command.now))) resume_length _ ln (sym (shown-based ln)) (image-plain ((image_in c.args.command.now)) ok) (image-ok ((image_in c.args.command.now)) ok) ws c.accepted.ensures)))

@@ -13,6 +13,10 @@ use Rattle.card_outcome.specs.Leaves.{call_of, CommandLeaves}
 use borrow.Author.Rules.{rules}
 use Rattle.card_perform.proofs.perform.Goals as goal
 
+-- what is so of a command that was read
+has : (m : List ℕ) {k k' : Command} → decode_of m ≡ Run k → k ≡ k' → Has m k'
+has m d e = run-has m (decode_of m) _ (d ∙ ap Run e) (read-in m)
+
 -- what is so of a command is so of the one that it was found to be
 found : (ws : List ℕ) {k k' : Command} (a : Call) {r : Outcome} {ws' o : List ℕ} → k ≡ k' → CommandLeaves ws k' a r ws' o → CommandLeaves ws k a r ws' o
 found ws a {r} {ws'} {o} e h = subst (λ (x : Command). CommandLeaves ws x a r ws' o) (sym e) h
@@ -20,43 +24,43 @@ found ws a {r} {ws'} {o} e h = subst (λ (x : Command). CommandLeaves ws x a r w
 pub run_tray-requires : goal.run_tray-requires
 unfolding length_of
 run_tray-requires c =
-    let h = (let it : {k : Command} → c.args.k ≡ k → Has c.args.command.now k = λ e. run-has c.args.command.now (decode_of c.args.command.now) _ (c.requires.1 ∙ ap Run e) (read-in c.args.command.now) in it) c.in-Tray.is in record { sound = (c.requires.0, h.line); tray_length_in_bounds = h.whole }
+    let h = has c.args.command.now c.requires.1 c.in-Tray.is in record { sound = (c.requires.0, h.line); tray_length_in_bounds = h.whole }
 
 pub run_own-requires : goal.run_own-requires
 unfolding length_of
 run_own-requires c =
-    let h = (let it : {k : Command} → c.args.k ≡ k → Has c.args.command.now k = λ e. run-has c.args.command.now (decode_of c.args.command.now) _ (c.requires.1 ∙ ap Run e) (read-in c.args.command.now) in it) c.in-Own.is in record { sound = (c.requires.0, h.line); own_length_in_bounds = h.whole }
+    let h = has c.args.command.now c.requires.1 c.in-Own.is in record { sound = (c.requires.0, h.line); own_length_in_bounds = h.whole }
 
 pub run_crypt-requires : goal.run_crypt-requires
 run_crypt-requires c =
-    (c.requires.0, ((let it : {k : Command} → c.args.k ≡ k → Has c.args.command.now k = λ e. run-has c.args.command.now (decode_of c.args.command.now) _ (c.requires.1 ∙ ap Run e) (read-in c.args.command.now) in it) c.in-Crypt.is).line)
+    (c.requires.0, (has c.args.command.now c.requires.1 c.in-Crypt.is).line)
 
 pub run_park-requires : goal.run_park-requires
 run_park-requires c =
-    (c.requires.0, ((let it : {k : Command} → c.args.k ≡ k → Has c.args.command.now k = λ e. run-has c.args.command.now (decode_of c.args.command.now) _ (c.requires.1 ∙ ap Run e) (read-in c.args.command.now) in it) c.in-Park.is).line)
+    (c.requires.0, (has c.args.command.now c.requires.1 c.in-Park.is).line)
 
 pub run_resume-requires : goal.run_resume-requires
 unfolding length_of
 run_resume-requires c =
-    let h = (let it : {k : Command} → c.args.k ≡ k → Has c.args.command.now k = λ e. run-has c.args.command.now (decode_of c.args.command.now) _ (c.requires.1 ∙ ap Run e) (read-in c.args.command.now) in it) c.in-Resume.is in record { sound = (c.requires.0, h.line); resume_length_in_bounds = h.whole }
+    let h = has c.args.command.now c.requires.1 c.in-Resume.is in record { sound = (c.requires.0, h.line); resume_length_in_bounds = h.whole }
 
 pub run_close-requires : goal.run_close-requires
 run_close-requires c =
-    (c.requires.0, ((let it : {k : Command} → c.args.k ≡ k → Has c.args.command.now k = λ e. run-has c.args.command.now (decode_of c.args.command.now) _ (c.requires.1 ∙ ap Run e) (read-in c.args.command.now) in it) c.in-Close.is).line)
+    (c.requires.0, (has c.args.command.now c.requires.1 c.in-Close.is).line)
 
 pub run_change-requires : goal.run_change-requires
 unfolding length_of
 run_change-requires c =
-    let h = (let it : {k : Command} → c.args.k ≡ k → Has c.args.command.now k = λ e. run-has c.args.command.now (decode_of c.args.command.now) _ (c.requires.1 ∙ ap Run e) (read-in c.args.command.now) in it) c.in-Change.is in record { sound = (c.requires.0, h.line); change_length_in_bounds = h.whole }
+    let h = has c.args.command.now c.requires.1 c.in-Change.is in record { sound = (c.requires.0, h.line); change_length_in_bounds = h.whole }
 
 pub run_load-requires : goal.run_load-requires
 run_load-requires c =
-    (c.requires.0, ((let it : {k : Command} → c.args.k ≡ k → Has c.args.command.now k = λ e. run-has c.args.command.now (decode_of c.args.command.now) _ (c.requires.1 ∙ ap Run e) (read-in c.args.command.now) in it) c.in-Load.is).line)
+    (c.requires.0, (has c.args.command.now c.requires.1 c.in-Load.is).line)
 
 pub run_start-requires : goal.run_start-requires
 unfolding length_of
 run_start-requires c =
-    let h = (let it : {k : Command} → c.args.k ≡ k → Has c.args.command.now k = λ e. run-has c.args.command.now (decode_of c.args.command.now) _ (c.requires.1 ∙ ap Run e) (read-in c.args.command.now) in it) c.in-Start.is in record { sound = (c.requires.0, h.line); start_length_in_bounds = h.whole }
+    let h = has c.args.command.now c.requires.1 c.in-Start.is in record { sound = (c.requires.0, h.line); start_length_in_bounds = h.whole }
 
 pub returns-in-Tray : goal.returns-in-Tray
 returns-in-Tray c =

@@ -23,11 +23,10 @@ pub put_word-requires : goal.put_word-requires
 put_word-requires c = front-room c.loop-i.invariant.1 4 (omega arith)
 
 pub loop-i-preserved : goal.loop-i-preserved
-loop-i-preserved c =
-    (
-      search rules,
-      word_more c.args.w.now c.args.out.now c.loop-i.out _ c.loop-i.i (search rules) (omega arith) c.loop-i.invariant.1 c.put_word.ensures,
-    )
+loop-i-preserved c = (
+  search rules,
+  word_more c.args.w.now c.args.out.now c.loop-i.out _ c.loop-i.i (search rules) (omega arith) c.loop-i.invariant.1 c.put_word.ensures,
+)
 
 pub shape_of-out : goal.shape_of-out
 shape_of-out c = front_length c.loop-i.invariant.1

@@ -10,11 +10,8 @@ use Rattle.decim.specs.Cipher.{joined_up}
 use Rattle.decim.proofs.Bytes.{digit, up_turn, up_fits, up-below}
 use Rattle.decim.proofs.Turns.{refills_more}
 use borrow.Author.Rules.{rules}
+use Rattle.decim.proofs.taken.Invariants.{bit_after}
 use Rattle.decim.proofs.taken.Goals as goal
-
--- the bit that is taken after k others
-abbrev bit_after : ℕ → Buffer → ℕ → ℕ
-bit_after f h k = bit_in (refills f h k).b 0
 
 pub loop-k-init : goal.loop-k-init
 unfolding refills joined_up
@@ -27,14 +24,13 @@ overflow_add-z c =
     }
 
 pub loop-k-preserved : goal.loop-k-preserved
-loop-k-preserved c =
-    (
-      omega arith,
-      (
-        rw (c.next-held.ensures, c.loop-k.invariant.1.0, refills_more),
-        up_turn (bit_after c.args.f c.args.h) (λ k. digit _ 0) c.loop-k.k c.loop-k-test.true c.loop-k.invariant.1.1 (ap (λ (x : Buffer). bit_in x.b 0) c.loop-k.invariant.1.0),
-      ),
-    )
+loop-k-preserved c = (
+  omega arith,
+  (
+    rw (c.next-held.ensures, c.loop-k.invariant.1.0, refills_more),
+    up_turn (bit_after c.args.f c.args.h) (λ k. digit _ 0) c.loop-k.k c.loop-k-test.true c.loop-k.invariant.1.1 (ap (λ (x : Buffer). bit_in x.b 0) c.loop-k.invariant.1.0),
+  ),
+)
 
 pub overflow_cast-result : goal.overflow_cast-result
 overflow_cast-result c =

@@ -12,6 +12,10 @@ use Rattle.decim.proofs.Turns.{refills_more}
 use borrow.Author.Rules.{rules}
 use Rattle.decim.proofs.taken.Given as goal
 
+-- the bit that is taken after k others
+abbrev pub bit_after : ℕ → Buffer → ℕ → ℕ
+bit_after f h k = bit_in (refills f h k).b 0
+
 abbrev pub invariant-loop-k : goal.invariant-loop-k
 invariant-loop-k l = (l.k ≤ 8) × ((l.held ≡ refills l.f l.initial.held l.k) × (l.z ≡ joined_up l.k (bit_after l.f l.initial.held)))
 

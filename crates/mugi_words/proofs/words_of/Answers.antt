@@ -14,11 +14,10 @@ use borrow.Author.Rules.{rules}
 use Rattle.mugi_words.proofs.words_of.Goals as goal
 
 pub loop-i-preserved : goal.loop-i-preserved
-loop-i-preserved c =
-    (
-      search rules,
-      rw (c.right.ensures, c.left.ensures, c.loop-i.invariant.1) (halves-more c.args.x (replicate 38 0) c.loop-i.i (omega arith)),
-    )
+loop-i-preserved c = (
+  search rules,
+  rw (c.right.ensures, c.left.ensures, c.loop-i.invariant.1) (halves-more c.args.x (replicate 38 0) c.loop-i.i (omega arith)),
+)
 
 pub returns : goal.returns
 returns c =

@@ -11,12 +11,12 @@ use Rattle.pipeshear.proofs.pipeshear_call.Goals as goal
 
 pub returns-then-counts-ne3 : goal.returns-then-counts-ne3
 returns-then-counts-ne3 c =
-    wrong-counts c.args.card.now ((call_of c.args.command.now c.args.tray.now c.args.«data».now c.args.out.now)) c.args.counts.now ((let it : CallBytes ((call_of c.args.command.now c.args.tray.now c.args.«data».now c.args.out.now)) = record { command = all_known Byte ((call_of c.args.command.now c.args.tray.now c.args.«data».now c.args.out.now)).command (λ i. (c.type_inv.command i).fits); tray = all_known Byte ((call_of c.args.command.now c.args.tray.now c.args.«data».now c.args.out.now)).tray (λ i. (c.type_inv.tray i).fits); } in it)) c.if-counts-ne3.true
+    wrong-counts c.args.card.now ((call_of c.args.command.now c.args.tray.now c.args.«data».now c.args.out.now)) c.args.counts.now ((let it : CallBytes ((call_of c.args.command.now c.args.tray.now c.args.«data».now c.args.out.now)) = record { command = all_known Byte ((call_of c.args.command.now c.args.tray.now c.args.«data».now c.args.out.now)).command (λ i. (c.type_inv.command i).fits); tray = all_known Byte ((call_of c.args.command.now c.args.tray.now c.args.«data».now c.args.out.now)).tray (λ i. (c.type_inv.tray i).fits) } in it)) c.if-counts-ne3.true
 
 pub returns-then-card-ne-CARD : goal.returns-then-card-ne-CARD
 returns-then-card-ne-CARD c =
-    wrong-card c.args.card.now ((call_of c.args.command.now c.args.tray.now c.args.«data».now c.args.out.now)) c.args.counts.now ((let it : CallBytes ((call_of c.args.command.now c.args.tray.now c.args.«data».now c.args.out.now)) = record { command = all_known Byte ((call_of c.args.command.now c.args.tray.now c.args.«data».now c.args.out.now)).command (λ i. (c.type_inv.command i).fits); tray = all_known Byte ((call_of c.args.command.now c.args.tray.now c.args.«data».now c.args.out.now)).tray (λ i. (c.type_inv.tray i).fits); } in it)) c.if-counts-ne3.false c.if-card-ne-CARD.true c.put_counts.ensures
+    wrong-card c.args.card.now ((call_of c.args.command.now c.args.tray.now c.args.«data».now c.args.out.now)) c.args.counts.now ((let it : CallBytes ((call_of c.args.command.now c.args.tray.now c.args.«data».now c.args.out.now)) = record { command = all_known Byte ((call_of c.args.command.now c.args.tray.now c.args.«data».now c.args.out.now)).command (λ i. (c.type_inv.command i).fits); tray = all_known Byte ((call_of c.args.command.now c.args.tray.now c.args.«data».now c.args.out.now)).tray (λ i. (c.type_inv.tray i).fits) } in it)) c.if-counts-ne3.false c.if-card-ne-CARD.true c.put_counts.ensures
 
 pub returns : goal.returns
 returns c =
-    ran c.args.card.now ((call_of c.args.command.now c.args.tray.now c.args.«data».now c.args.out.now)) c.args.counts.now ((let it : CallBytes ((call_of c.args.command.now c.args.tray.now c.args.«data».now c.args.out.now)) = record { command = all_known Byte ((call_of c.args.command.now c.args.tray.now c.args.«data».now c.args.out.now)).command (λ i. (c.type_inv.command i).fits); tray = all_known Byte ((call_of c.args.command.now c.args.tray.now c.args.«data».now c.args.out.now)).tray (λ i. (c.type_inv.tray i).fits); } in it)) c.if-counts-ne3.false c.if-card-ne-CARD.false c.run-r.ensures c.run-r.kept.0 c.put_counts-2.ensures
+    ran c.args.card.now ((call_of c.args.command.now c.args.tray.now c.args.«data».now c.args.out.now)) c.args.counts.now ((let it : CallBytes ((call_of c.args.command.now c.args.tray.now c.args.«data».now c.args.out.now)) = record { command = all_known Byte ((call_of c.args.command.now c.args.tray.now c.args.«data».now c.args.out.now)).command (λ i. (c.type_inv.command i).fits); tray = all_known Byte ((call_of c.args.command.now c.args.tray.now c.args.«data».now c.args.out.now)).tray (λ i. (c.type_inv.tray i).fits) } in it)) c.if-counts-ne3.false c.if-card-ne-CARD.false c.run-r.ensures c.run-r.auto.card c.put_counts-2.ensures

@@ -13,16 +13,17 @@ use Rattle.sealing.proofs.open.Goals as goal
 
 pub open_with-requires : goal.open_with-requires
 open_with-requires c =
-    let f = (let it : Fitting (sealed_ok (length c.args.sealed.now)) c.args.cipher c.args.key.now c.args.iv.now (length c.args.sealed.now - 16) (length c.args.out.now) = check-passed _ _ _ _ _ _ ((let it : (open_check c.args.cipher c.args.key.now c.args.iv.now c.args.sealed.now (length c.args.out.now) ≡ 0) × (c.args.cipher ≡ number_of c.in-Run.c) = admitted-run c.args.cipher c.args.key.now c.args.iv.now (length c.args.out.now) c.sealed_ok.ensures c.message_length.ensures c.admit.ensures c.in-Run.is in it)).0 in it) in (
-      (search rules, search rules),
-      record {
+    let f = (let it : Fitting (sealed_ok (length c.args.sealed.now)) c.args.cipher c.args.key.now c.args.iv.now (length c.args.sealed.now - 16) (length c.args.out.now) = check-passed _ _ _ _ _ _ ((let it : (open_check c.args.cipher c.args.key.now c.args.iv.now c.args.sealed.now (length c.args.out.now) ≡ 0) × (c.args.cipher ≡ number_of c.in-Run.c) = admitted-run c.args.cipher c.args.key.now c.args.iv.now (length c.args.out.now) c.sealed_ok.ensures c.message_length.ensures c.admit.ensures c.in-Run.is in it)).0 in it) in
+    record {
+      key_len = (search rules, search rules);
+      openable = record {
         redundancy = search rules;
         least = sealed-least _ f.size;
         most = sealed-most _ f.size;
         whole = sealed-whole _ f.size;
         fits = let q = f.room_for in omega arith;
-      },
-    )
+      };
+    }
 
 pub returns-in-Run : goal.returns-in-Run
 returns-in-Run c =

@@ -27,7 +27,7 @@ returns-then-t-eq-TRIES c =
 
 pub recover-last-requires : goal.recover-last-requires
 recover-last-requires c =
-    (c.first-found.ensures.fit, (found_below ((blocks_from ((number_of c.args.c)) ((c.start-w.result)))) _ c.first-found.ensures.found.index c.if-t-eq-TRIES.false, record { most = c.requires.openable.most; whole = c.requires.openable.whole; fits = search rules }))
+    record { fit = c.first-found.ensures.fit; t_bound = (found_below ((blocks_from ((number_of c.args.c)) ((c.start-w.result)))) _ c.first-found.ensures.found.index c.if-t-eq-TRIES.false, record { most = c.requires.openable.most; whole = c.requires.openable.whole; fits = search rules }) }
 
 pub slice_bounds-release-end : goal.slice_bounds-release-end
 slice_bounds-release-end c = sym (length-take-le (length ((c.args.sealed.now)) - 16) ((c.recover-last.new.held)) ((let it : length ((c.args.sealed.now)) - 16 ≤ length ((c.recover-last.new.held)) = let m : length ((c.args.sealed.now)) ≤ 16400 = c.requires.openable.most in search rules in it)))

@@ -19,6 +19,6 @@ returns c =
     record {
       behind = e.block;
       bytes =
-          recovered-put (number_of c.args.c) c.args.t s c.args.a c.args.sealed.now c.args.held.now (all-by c.args.sealed.now (λ i _. (c.type_inv.sealed i).ranges)) c.requires.t_bound.1.whole refl c.inverse-inverse.ensures d
+          recovered-put (number_of c.args.c) c.args.t s c.args.a c.args.sealed.now c.args.held.now (all-by c.args.sealed.now (λ i _. (c.type_inv.sealed i).fits)) c.requires.t_bound.1.whole refl c.inverse-inverse.ensures d
           c.unchain.ensures;
     }

@@ -12,7 +12,7 @@ pub loop-i-init : goal.loop-i-init
 loop-i-init c = passed_none _ _ c.requires
 
 pub next_block-x-requires : goal.next_block-x-requires
-next_block-x-requires c = (c.loop-i.invariant.stands.fit, omega arith)
+next_block-x-requires c = record { fit = c.loop-i.invariant.stands.fit; i_bound = omega arith }
 
 pub returns-then-x-ne0 : goal.returns-then-x-ne0
 returns-then-x-ne0 c =

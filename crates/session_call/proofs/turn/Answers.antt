@@ -9,7 +9,7 @@ use Rattle.session_call.proofs.turn.Goals as goal
 
 pub put_record-last-requires : goal.put_record-last-requires
 put_record-last-requires c =
-    (names c.args.p c.args.commands.now c.args.tray.now c.args.text.now c.args.out.now _ _ c.call-answer.ensures, c.requires.record-fits)
+    record { named = names c.args.p c.args.commands.now c.args.tray.now c.args.text.now c.args.out.now _ _ c.call-answer.ensures; at_in_bounds = c.requires.record-fits }
 
 pub overflow_add-command : goal.overflow_add-command
 overflow_add-command c =
@@ -26,9 +26,9 @@ overflow_add-data c =
 pub overflow_add-filled : goal.overflow_add-filled
 overflow_add-filled c =
     let l = (let it : length c.args.out.now < 2 ^ 63 = search rules in it) in
-    let h = (let it : c.args.p.out + c.call-answer.result.outcome.written ≤ length c.args.out.now = let h = out_within c.args.p c.args.commands.now c.args.tray.now c.args.text.now c.args.out.now _ _ c.call-answer.ensures c.call-answer.auto.1.1.1.1.0 in omega (arith, length-drop c.args.p.out c.args.out.now) in it) in
+    let h = (let it : c.args.p.out + c.call-answer.result.outcome.written ≤ length c.args.out.now = let h = out_within c.args.p c.args.commands.now c.args.tray.now c.args.text.now c.args.out.now _ _ c.call-answer.ensures c.call-answer.auto.out in omega (arith, length-drop c.args.p.out c.args.out.now) in it) in
     record { fits = omega arith }
 
 pub returns : goal.returns
 returns c =
-    turned c.args.p c.args.commands.now c.args.tray.now c.args.text.now c.args.out.now _ _ c.call-answer.ensures c.args.table.now _ c.args.records.now _ _ _ ((let it : c.args.p.out + c.call-answer.result.outcome.written ≤ length c.args.out.now = let h = out_within c.args.p c.args.commands.now c.args.tray.now c.args.text.now c.args.out.now _ _ c.call-answer.ensures c.call-answer.auto.1.1.1.1.0 in omega (arith, length-drop c.args.p.out c.args.out.now) in it)) c.put_row-end.ensures c.put_record-last.ensures
+    turned c.args.p c.args.commands.now c.args.tray.now c.args.text.now c.args.out.now _ _ c.call-answer.ensures c.args.table.now _ c.args.records.now _ _ _ ((let it : c.args.p.out + c.call-answer.result.outcome.written ≤ length c.args.out.now = let h = out_within c.args.p c.args.commands.now c.args.tray.now c.args.text.now c.args.out.now _ _ c.call-answer.ensures c.call-answer.auto.out in omega (arith, length-drop c.args.p.out c.args.out.now) in it)) c.put_row-end.ensures c.put_record-last.ensures

@@ -16,6 +16,4 @@ loop-k-preserved c =
 
 pub returns : goal.returns
 unfolding products_of
-returns c =
-    let h = entered_all (λ i. scaled c.args.p i c.args.v) c.loop-k-test.false c.loop-k.invariant in
-    record { value = h.0; value_2 = h.1 }
+returns c = let q = entered_all (λ i. scaled c.args.p i c.args.v) c.loop-k-test.false c.loop-k.invariant in record { value = q.0; value_2 = q.1 }

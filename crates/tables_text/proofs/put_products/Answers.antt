@@ -6,6 +6,5 @@ use Rattle.tables_text.proofs.put_products.Goals as goal
 
 pub returns : goal.returns
 returns c =
-    let t = c.products-t.ensures in
-    let h = worked-out 8 (t.value, t.value_2) (c.put_table.ensures.behind, c.put_table.ensures.value) in
-    record { behind = h.0; value = h.1 }
+    let q = worked-out 8 (c.products-t.ensures.value, c.products-t.ensures.value_2) (c.put_table.ensures.behind, c.put_table.ensures.value) in
+    record { behind = q.0; value = q.1 }

@@ -6,6 +6,5 @@ use Rattle.tables_text.proofs.put_substitution.Goals as goal
 
 pub returns : goal.returns
 returns c =
-    let t = c.substitution-t.ensures in
-    let h = worked-out 2 (t.value, t.value_2) (c.put_table.ensures.behind, c.put_table.ensures.value) in
-    record { behind = h.0; value = h.1 }
+    let q = worked-out 2 (c.substitution-t.ensures.value, c.substitution-t.ensures.value_2) (c.put_table.ensures.behind, c.put_table.ensures.value) in
+    record { behind = q.0; value = q.1 }

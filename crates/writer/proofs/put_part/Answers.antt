@@ -21,13 +21,12 @@ bounds-out-i c =
     omega (arith, ap length c.loop-i.invariant.1, fill-length (λ j. get_or c.args.ks.now j 0) c.args.from c.loop-i.i c.args.text.now c.args.out.now (omega arith) (omega arith))
 
 pub loop-i-preserved : goal.loop-i-preserved
-loop-i-preserved c =
-    (
-      omega arith,
-      ap (λ (o : List ℕ). set o c.loop-i.i (get_or c.args.text.now c.loop-i.i 0 ⊕ get_or c.args.ks.now (c.args.from + c.loop-i.i) 0)) c.loop-i.invariant.1
-          ∙ fill-byte (λ j. get_or c.args.ks.now j 0) c.args.from c.loop-i.i c.args.text.now c.args.out.now (omega arith) (omega arith)
-          ∙ ap (λ (k : ℕ). xor_from (λ j. get_or c.args.ks.now j 0) c.args.from (take k c.args.text.now) ++ drop k c.args.out.now) (sym (add-one c.loop-i.i)),
-    )
+loop-i-preserved c = (
+  omega arith,
+  ap (λ (o : List ℕ). set o c.loop-i.i (get_or c.args.text.now c.loop-i.i 0 ⊕ get_or c.args.ks.now (c.args.from + c.loop-i.i) 0)) c.loop-i.invariant.1
+      ∙ fill-byte (λ j. get_or c.args.ks.now j 0) c.args.from c.loop-i.i c.args.text.now c.args.out.now (omega arith) (omega arith)
+      ∙ ap (λ (k : ℕ). xor_from (λ j. get_or c.args.ks.now j 0) c.args.from (take k c.args.text.now) ++ drop k c.args.out.now) (sym (add-one c.loop-i.i)),
+)
 
 pub shape_of-out : goal.shape_of-out
 shape_of-out c =

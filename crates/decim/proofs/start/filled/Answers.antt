@@ -12,11 +12,10 @@ pub loop-n-init : goal.loop-n-init
 loop-n-init c = (search rules, refl)
 
 pub loop-n-preserved : goal.loop-n-preserved
-loop-n-preserved c =
-    (
-      omega arith,
-      filled-turn c.loop-n.n c.args.st c.loop-n.s (omega (arith, c.loop-n-test.true)) c.loop-n.invariant.1 c.if-s-lt32.true-raw c.init_buff-s.ensures,
-    )
+loop-n-preserved c = (
+  omega arith,
+  filled-turn c.loop-n.n c.args.st c.loop-n.s (omega (arith, c.loop-n-test.true)) c.loop-n.invariant.1 c.if-s-lt32.true-raw c.init_buff-s.ensures,
+)
 
 pub returns-else-s-lt32 : goal.returns-else-s-lt32
 returns-else-s-lt32 c = sym (c.loop-n.invariant.1 ∙ filled-full (1024 - c.loop-n.n) c.loop-n.s c.if-s-lt32.false-raw)

@@ -22,11 +22,10 @@ overflow_add-w c =
     record { fits = joined-fits (λ n. loaded_bit c.args.key.now c.args.iv.now (32 * c.args.i + n)) (λ n. loaded-bit _ _ _) c.loop-j.invariant.1 c.load_bit.ensures c.loop-j-test.true }
 
 pub loop-j-preserved : goal.loop-j-preserved
-loop-j-preserved c =
-    (
-      omega arith,
-      joined-more (λ n. loaded_bit c.args.key.now c.args.iv.now (32 * c.args.i + n)) (λ n. loaded-bit _ _ _) c.loop-j.invariant.1 c.load_bit.ensures,
-    )
+loop-j-preserved c = (
+  omega arith,
+  joined-more (λ n. loaded_bit c.args.key.now c.args.iv.now (32 * c.args.i + n)) (λ n. loaded-bit _ _ _) c.loop-j.invariant.1 c.load_bit.ensures,
+)
 
 pub returns : goal.returns
 returns c =

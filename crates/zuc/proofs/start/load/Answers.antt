@@ -14,12 +14,11 @@ pub loop-i-init : goal.loop-i-init
 loop-i-init c = (search rules, refl)
 
 pub loop-i-preserved : goal.loop-i-preserved
-loop-i-preserved c =
-    (
-      omega arith,
-      rw (c.cell.ensures, c.loop-i.invariant.1, c.d-d.ensures)
-          (fill c.loop-i.i (loaded_cell c.args.key.now c.args.iv.now) (replicate 16 0) (search rules)),
-    )
+loop-i-preserved c = (
+  omega arith,
+  rw (c.cell.ensures, c.loop-i.invariant.1, c.d-d.ensures)
+      (fill c.loop-i.i (loaded_cell c.args.key.now c.args.iv.now) (replicate 16 0) (search rules)),
+)
 
 pub returns : goal.returns
 unfolding loaded
