@@ -39,6 +39,9 @@ fn fill(file: &mut File, buf: &mut [u8]) -> io::Result<usize>
         }
         done += n;
     }
+    // an error behind a full buffer is one too
+    let mut byte = [0u8; 1];
+    file.read(&mut byte)?;
     Ok(done)
 }
 
