@@ -24,7 +24,7 @@ entries_from w i (x ∷ t) = entry_text w x (behind_entry i) ++ entries_from w (
 abbrev pub table_text : ℕ → List ℕ → List ℕ
 table_text w t = entries_from w 0 t
 
--- SUB in bytes; αMUL and αinv_mul of SNOW 2.0, αMUL0 to αMUL3 of KCipher-2 in words
+-- SUB in bytes; αMUL and αinv_MUL of SNOW 2.0, αMUL0 to αMUL3 of KCipher-2 in words
 unfoldable pub tables_text : List ℕ
 tables_text =
     table_text 2 sub_list
