@@ -49,7 +49,7 @@ alpha_list =
     0x667bff0a ∷ 0x87e43019 ∷ 0x0decc82c ∷ 0xec73073f ∷ 0xb0fc9146 ∷ 0x51635e55 ∷ 0xdb6ba660 ∷ 0x3af46973 ∷
     0x63dc2392 ∷ 0x8243ec81 ∷ 0x084b14b4 ∷ 0xe9d4dba7 ∷ 0xb55b4dde ∷ 0x54c482cd ∷ 0xdecc7af8 ∷ 0x3f53b5eb ∷ []
 
--- αinv_mul
+-- αinv_MUL
 unfoldable pub inverse_list : List ℕ
 inverse_list =
     0x00000000 ∷ 0x180f40cd ∷ 0x301e8033 ∷ 0x2811c0fe ∷ 0x603ca966 ∷ 0x7833e9ab ∷ 0x50222955 ∷ 0x482d6998 ∷
@@ -85,7 +85,7 @@ inverse_list =
     0x3ea637b6 ∷ 0x26a9777b ∷ 0x0eb8b785 ∷ 0x16b7f748 ∷ 0x5e9a9ed0 ∷ 0x4695de1d ∷ 0x6e841ee3 ∷ 0x768b5e2e ∷
     0xfedecc7a ∷ 0xe6d18cb7 ∷ 0xcec04c49 ∷ 0xd6cf0c84 ∷ 0x9ee2651c ∷ 0x86ed25d1 ∷ 0xaefce52f ∷ 0xb6f3a5e2 ∷ []
 
--- a, ai and t are lent as αMUL, αinv_mul and the table of T
+-- a, ai and t are lent as αMUL, αinv_MUL and the table of T
 pub record Lent (a ai t : List ℕ) : Type 0 where
   pub is-alpha : a ≡ alpha_list
   pub is_inverse : ai ≡ inverse_list
