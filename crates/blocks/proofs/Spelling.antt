@@ -3,13 +3,13 @@
 use mathlib.Core.Path.{◌≡◌, refl, ap, ap₂, sym, subst, ◌∙◌}
 use mathlib.Core.List.{List, [], ◌∷◌, ◌++◌, append_assoc}
 use Prim.Native.Nat.{ℕ, zero, suc, ◌+◌, ◌*◌, ◌/◌, ◌%◌, ◌<◌, ◌≤◌, ◌^◌}
-use native.Mathlib.Nat.{add-zero, zero-add, mod-lt, not-suc-le-zero, le_of_suc-le-suc}
+use native.Mathlib.Nat.{zero-add, mod-lt}
 use native.Mathlib.Omega.{arith}
 use lib.Bits.{xor_block, xor_lt}
 use lib.ListN.{length, get_or, take, drop, length-append, length-drop, get_or-append}
 use lib.Pow.{high, low, shr_lt, split, pow_pos}
-use lib.Seq.{take-add, get_or-append-add, get_or-drop, drop-drop, length-take-le, take_all, get_or-take, sets, sets-eq}
-use Rattle.words.specs.Word.{◌⊕◌, word, b0, b1, b2, b3}
+use lib.Seq.{take-add, get_or-append-add, get_or-drop, drop-drop, length-take-le, take_all, get_or-take}
+use Rattle.words.specs.Word.{◌⊕◌, word}
 use Rattle.words.specs.Lists.{All, none, more, Byte, Word, tab}
 use Rattle.words.specs.Strings.{word_at, bytes_of}
 use Rattle.words.proofs.Digits.{word_bytes, word-told}
@@ -17,7 +17,7 @@ use Rattle.words.proofs.Ranges.{join-word, byte_of, all_append, all-at, all-tab}
 use Rattle.words.proofs.Registers.{cons, listed}
 use Rattle.words.proofs.Xor.{word-xor}
 use Rattle.keystream.specs.Stream.{xor_from}
-use Rattle.keystream.proofs.Tables.{tab-length, tab-agree, get_d-tab}
+use Rattle.keystream.proofs.Tables.{tab-length, tab-agree}
 use Rattle.blocks.specs.Blocks.{Block, block_at, spell, blocks_of, spelled}
 
 -- ---- tables
@@ -194,14 +194,6 @@ blocks_of-blocks s h = all-tab (length s / 8) (λ i. block_at s (8 * i)) (λ i _
 pub blocks_of-length : (s : List ℕ) → length (blocks_of s) ≡ length s / 8
 unfolding blocks_of
 blocks_of-length s = tab-length (length s / 8) (λ i. block_at s (8 * i))
-
--- the bytes of a block, stored one after the other
-pub put-bytes : (x : ℕ) (out : List ℕ) {b : List ℕ} → b ≡ spell x → 8 ≤ length out → sets out 0 (tab 8 (λ i. get_or b i 0)) ≡ spell x ++ drop 8 out
-put-bytes x out e h =
-    ap (λ (l : List ℕ). sets out 0 (tab 8 (λ i. get_or l i 0))) e
-    ∙ ap (sets out 0) (sym (listed 8 (spell x) (spell-length x)))
-    ∙ sets-eq (spell x) out 0 (omega (arith, spell-length x))
-    ∙ ap (λ (k : ℕ). spell x ++ drop k out) (let e : 0 + length (spell x) ≡ 8 = omega (arith, spell-length x) in e)
 
 -- ---- a block of text with one of keystream
 

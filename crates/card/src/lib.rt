@@ -9,13 +9,13 @@ ghost use Rattle.card.specs.Ran.{fresh as fresh_card, CallPromise};
 use card_outcome::Outcome;
 use card_sizes::CARD;
 
-#[derive(Clone, Copy)]
+#[derive(Clone, Copy, Debug, PartialEq, Eq)]
 pub struct Card {
     pub words: [u32; CARD],
 }
 
 // What a call gives: the card after it, and its outcome.
-#[derive(Clone, Copy)]
+#[derive(Clone, Copy, Debug, PartialEq, Eq)]
 pub struct Answer {
     pub card: Card,
     pub outcome: Outcome,
@@ -42,10 +42,9 @@ pub fn call<'a>(
         result out.new }
 {
     let mut words = card.words;
-    let outcome = card_engine::run(&mut words, command, tray, data, out);
-    let next = Card { words };
+    let result = card_engine::run(&mut words, command, tray, data, out);
     Answer {
-        card: next,
-        outcome,
+        card: Card { words },
+        outcome: Outcome::from(result),
     }
 }

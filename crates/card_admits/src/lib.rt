@@ -16,10 +16,8 @@ pub fn all_zero(s: &[u8]) -> bool
     ensures { result ≡ all_zero s.now }
 {
     let mut all: u8 = 0;
-    let mut i: usize = 0;
-    while i < s.len() {
-        all = all | s[i];
-        i += 1;
+    for &x in s {
+        all |= x;
     }
     all == 0
 }
@@ -29,10 +27,8 @@ pub fn words_zero(s: &[u32]) -> bool
     ensures { result ≡ all_zero s.now }
 {
     let mut all: u32 = 0;
-    let mut i: usize = 0;
-    while i < s.len() {
-        all = all | s[i];
-        i += 1;
+    for &x in s {
+        all |= x;
     }
     all == 0
 }
@@ -44,12 +40,10 @@ pub fn cells(w: &[u32]) -> bool
     ensures { result ≡ are_cells (take 16 w.now) }
 {
     let mut all: u32 = 0;
-    let mut i: usize = 0;
-    while i < 16 {
+    for i in 0..16 {
         let x = w[i];
-        let before = std::num::wrapping_add_u32(x, 4294967295);
+        let before = x.wrapping_sub(1);
         all = all | x | before;
-        i += 1;
     }
     all < 2147483648
 }
@@ -67,21 +61,14 @@ fn zuc_admits(w: &[u32]) -> bool
     requires { length w.now ≡ state_words }
     ensures { result ≡ both (are_cells (take 16 w.now)) (zeros_from 18 w.now) }
 {
-    let all = cells(w);
-    if !all {
-        return false;
-    }
-    spare(w, 18)
+    cells(w) && spare(w, 18)
 }
 
 // Whether a word is the byte of Rabbit's carry, with zeros after it.
 pub fn is_carry(w: u32) -> bool
     ensures { result ≡ pick (w == 0) true (w == 16777216) }
 {
-    if w == 0 {
-        return true;
-    }
-    w == 16777216
+    w == 0 || w == 16777216
 }
 
 // Whether Rabbit admits a state.
@@ -90,12 +77,7 @@ fn rabbit_admits(w: &[u32]) -> bool
     ensures { result ≡ both (pick (slice_index w.now 16 == 0) true (slice_index w.now 16 == 16777216))
         (zeros_from 17 w.now) }
 {
-    let carry = w[16];
-    let fits = is_carry(carry);
-    if !fits {
-        return false;
-    }
-    spare(w, 17)
+    is_carry(w[16]) && spare(w, 17)
 }
 
 // Whether a cipher admits a state.
@@ -118,12 +100,7 @@ fn key_alone(w: &[u32], k: usize) -> bool
     requires { k ≤ length w.now }
     ensures { result ≡ both (zeros_from k w.now) (not (all_zero (take k w.now))) }
 {
-    let plain = spare(w, k);
-    if !plain {
-        return false;
-    }
-    let blank = words_zero(&w[..k]);
-    !blank
+    spare(w, k) && !words_zero(&w[..k])
 }
 
 // Whether a loaded line of a cipher may keep these words: the words of a key that is not all zero and zeros after them, of Rabbit a state that it admits.

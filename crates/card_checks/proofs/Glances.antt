@@ -14,9 +14,10 @@ use Rattle.words.specs.Tests.{both, pick}
 use Rattle.words.proofs.Registers.{listed}
 use Rattle.words.proofs.Tests.{both_left, both_right, both_true, both_false}
 use Rattle.card_sizes.specs.Sizes.{state_words, head_words, due_at, line_size}
+use Rattle.command.specs.declared.Cipher.{Cipher}
 use Rattle.command.specs.declared.Cipher.TheVariants.{Zuc, Rabbit, Snow128, Snow256, Kcipher2, Mugi}
-use Rattle.command.specs.declared.CipherRead.{CipherRead}
-use Rattle.command.specs.declared.CipherRead.TheVariants.{Is, Unknown}
+use Rattle.command.specs.declared.Refusal.{Refusal}
+use Rattle.std.specs.Prelude.{Result, Ok, Err}
 use Rattle.command.specs.Decode.{read_of}
 use Rattle.ciphers.specs.Table.{cipher_at, is_cipher, is_zero, all_zero, zeros_from, are_cells, zuc, rabbit, snow128, snow256, kcipher2, mugi}
 use Rattle.ciphers.proofs.Numbers.{Reads, reads, reads_none, byte_reads}
@@ -104,14 +105,14 @@ module _ (f : ℕ → ℕ) where
   others_by : (c : ℕ) → (c ≡ 6 → ⊥) → (c ≡ 5 → ⊥) → Others c
   others_by c p q = by (read_of c) (byte_reads c)
     where
-      by : (d : CipherRead) → Reads c d → Others c
-      by (Is Zuc) (reads e t) = subst Others (sym e) zuc-by
-      by (Is Rabbit) (reads e t) = subst Others (sym e) rabbit-by
-      by (Is Snow128) (reads e t) = subst Others (sym e) snow128-by
-      by (Is Snow256) (reads e t) = subst Others (sym e) snow256-by
-      by (Is Kcipher2) (reads e t) = absurd (q e)
-      by (Is Mugi) (reads e t) = absurd (p e)
-      by Unknown (reads_none h) = none-by c h
+      by : (d : Result Cipher Refusal) → Reads c d → Others c
+      by (Ok Zuc) (reads e t) = subst Others (sym e) zuc-by
+      by (Ok Rabbit) (reads e t) = subst Others (sym e) rabbit-by
+      by (Ok Snow128) (reads e t) = subst Others (sym e) snow128-by
+      by (Ok Snow256) (reads e t) = subst Others (sym e) snow256-by
+      by (Ok Kcipher2) (reads e t) = absurd (q e)
+      by (Ok Mugi) (reads e t) = absurd (p e)
+      by (Err _) (reads_none h) = none-by c h
 
 module _ (ws : List ℕ) (size : length ws ≡ line_size) where
   -- what holds of the words as a table holds of them

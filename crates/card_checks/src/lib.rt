@@ -12,7 +12,7 @@ ghost use Rattle.card_checks.specs.Glances.{glanced};
 
 use card_admits::{admits, cells, is_carry, keeps, words_zero};
 use card_sizes::{DUE, HEAD, LIMIT, LINE, LINES, STATE, WAITING};
-use command::{CipherRead, read_cipher};
+use command::Cipher;
 
 // Whether an open line or an image may have this cipher, this position and these words for its state.
 pub fn open_with(c: u8, n: u64, w: &[u32]) -> bool
@@ -22,7 +22,7 @@ pub fn open_with(c: u8, n: u64, w: &[u32]) -> bool
     if n > LIMIT {
         return false;
     }
-    let CipherRead::Is(cipher) = read_cipher(c) else {
+    let Ok(cipher) = Cipher::try_from(c) else {
         return false;
     };
     admits(cipher, &w[..STATE])
@@ -52,7 +52,7 @@ fn loaded_ok(line: &[u32]) -> bool
     ensures { (result ≡ line_ok (line_in line.now)) × (result ≡ true → line_words (line_in line.now) ≡ line.now) }
 {
     let named = card_line::cipher_of(line);
-    let CipherRead::Is(cipher) = read_cipher(named) else {
+    let Ok(cipher) = Cipher::try_from(named) else {
         return false;
     };
     let n = card_line::position_of(line);
@@ -153,15 +153,10 @@ pub fn card_ok(card: &[u32]) -> bool
     requires { length card.now ≡ card_size }
     ensures { (result ≡ card_ok (card_in card.now)) × (result ≡ true → Sound card.now) }
 {
-    let mut i: usize = 0;
-    while i < LINES {
-        let at = LINE * i;
-        let end = at + LINE;
-        let ok = line_ok(&card[at..end]);
-        if !ok {
+    for i in 0..LINES as u8 {
+        if !line_ok(card_layout::line_of(card, i)) {
             return false;
         }
-        i += 1;
     }
     card_parks::parks_ok(card)
 }

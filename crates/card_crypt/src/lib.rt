@@ -7,15 +7,16 @@ ghost use Rattle.card_sizes.specs.Sizes.{line_size, line_count};
 ghost use Rattle.command.specs.declared.Command.TheVariants.{Crypt};
 ghost use Rattle.card_line.specs.Words.{line_in, line_words};
 ghost use Rattle.card_layout.specs.Words.{Sound};
+ghost use Rattle.card_outcome.specs.Outcomes.{outcome_for};
 ghost use Rattle.card_outcome.specs.Leaves.{call_of, CommandLeaves};
 ghost use Rattle.card_crypt.specs.Crypted.{AlongAsks, Along, renewed_line, PastAsks, CryptAsks, Crypted};
 
 use card_moves::comes_due;
-use card_outcome::{Outcome, accepted, refused};
-use card_rows::crypt_code;
+use card_outcome::Counts;
+use card_rows::crypt_check;
 use card_sizes::{CRYPT, DUE, HEAD, LINE, WAITING};
 use ciphers::unit_of;
-use command::{CipherRead, read_cipher};
+use command::{Cipher, Refusal};
 
 // The open line that stands in words, as many bytes on in its stream as the text has, which goes to the start of out, XORed with the stream.
 fn encipher(line: &mut [u32], text: &[u8], out: &mut [u8])
@@ -24,7 +25,7 @@ fn encipher(line: &mut [u32], text: &[u8], out: &mut [u8])
 {
     let cipher = card_line::cipher_of(line);
     let n = card_line::position_of(line);
-    let CipherRead::Is(c) = read_cipher(cipher) else {
+    let Ok(c) = Cipher::try_from(cipher) else {
         return;
     };
     let unit = unit_of(c) as u64;
@@ -73,20 +74,26 @@ fn encipher_text(line: &mut [u32], text: &[u8], out: &mut [u8])
 }
 
 // A crypt of count bytes on line i.
-pub fn run_crypt(card: &mut [u32], i: u8, count: usize, data: &[u8], out: &mut [u8]) -> Outcome
+pub fn run_crypt(
+    card: &mut [u32],
+    i: u8,
+    count: usize,
+    data: &[u8],
+    out: &mut [u8],
+) -> Result<Counts, Refusal>
     requires { Sound card.old × (i < line_count) }
     ensures { (command tray : List ℕ) → CommandLeaves card.old (Crypt i count)
-        (call_of command tray «data».now out.old) result card.new out.new }
+        (call_of command tray «data».now out.old) (outcome_for result) card.new out.new }
 {
     let mode = card_layout::mode_at(card, i);
     let n = card_layout::position_at(card, i);
     let due = card_layout::due_at(card, i);
-    let code = crypt_code(mode, n, due, count, data.len(), out.len());
-    if code != 0 {
-        return refused(code);
-    }
+    crypt_check(mode, n, due, count, data.len(), out.len())?;
     let at = LINE * (i as usize);
-    let end = at + LINE;
-    encipher_text(&mut card[at..end], &data[..count], out);
-    accepted(CRYPT, count, count)
+    encipher_text(&mut card[at..at + LINE], &data[..count], out);
+    Ok(Counts {
+        used_command: CRYPT,
+        used_data: count,
+        written: count,
+    })
 }

@@ -4,12 +4,13 @@
 
 ghost use Rattle.std.specs.Prelude.{◌≡◌, length};
 ghost use Rattle.card_sizes.specs.Sizes.{card_size};
+ghost use Rattle.card_outcome.specs.Outcomes.{outcome_for};
 ghost use Rattle.card_outcome.specs.Leaves.{call_of, CallLeaves};
 
 use card_checks::card_ok;
-use card_outcome::{Outcome, refused};
+use card_outcome::Counts;
 use card_perform::perform;
-use command::{Decoded, refusal_number};
+use command::Refusal;
 use command_read::decode;
 
 // One call. A card that no call of this program leaves gets 255.
@@ -19,20 +20,18 @@ pub fn run<'a>(
     tray: &'a [u8],
     data: &[u8],
     out: &mut [u8],
-) -> Outcome
+) -> Result<Counts, Refusal>
     requires { length card.old ≡ card_size }
     ensures { CallLeaves card.old
-        (call_of command.now tray.now «data».now out.old) result card.new
+        (call_of command.now tray.now «data».now out.old) (outcome_for result) card.new
         out.new }
 {
-    let ok = card_ok(card);
-    if !ok {
-        return refused(255);
+    if !card_ok(card) {
+        return Err(Refusal::Damaged);
     }
-    let d = decode(command);
-    let Decoded::Run(k) = d else {
-        let number = refusal_number(d);
-        return refused(number);
+    let decoded = decode(command);
+    let Ok(k) = decoded else {
+        return Err(decoded.unwrap_err());
     };
     perform(card, k, command, tray, data, out)
 }

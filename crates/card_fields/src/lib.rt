@@ -22,8 +22,8 @@ pub fn position_in(s: &[u8]) -> u64
     requires { image_length ≤ length s.now }
     ensures { result ≡ (image_line s.now).n }
 {
-    let high = words::word_at(s, 1) as u64;
-    let low = words::word_at(s, 5) as u64;
+    let high = u64::from(words::word_at(s, 1));
+    let low = u64::from(words::word_at(s, 5));
     high * 4294967296 + low
 }
 
@@ -49,10 +49,8 @@ pub fn words_in(s: &[u8]) -> [u32; STATE]
     ensures { result ≡ (image_line s.now).words }
 {
     let mut w = [0u32; STATE];
-    let mut i: usize = 0;
-    while i < STATE {
+    for i in 0..STATE {
         w[i] = words::word_at(s, IMAGE_STATE + 4 * i);
-        i += 1;
     }
     w
 }

@@ -1,7 +1,7 @@
 -- The bytes of key and IV beyond the cipher's lengths, the key within them, and what the number says that they give.
 -- Assumes nothing.
 use mathlib.Core.Path.{◌≡◌, refl, ap, ap₂, sym, ◌∙◌}
-use mathlib.Core.Bool.{Bool, true, false, not, true≢false}
+use mathlib.Core.Bool.{Bool, true, false, not}
 use mathlib.Core.List.{List, [], ◌∷◌}
 use Prim.Native.Nat.{ℕ, zero, suc, ◌+◌, ◌≤◌}
 use native.Mathlib.Omega.{arith}
@@ -12,7 +12,12 @@ use Rattle.card_sizes.specs.Sizes.{key_length}
 use Rattle.ciphers.specs.Table.{cipher_at, all_zero}
 use Rattle.words.proofs.Tests.{both_true, both_false}
 use Rattle.machine.specs.Machine.{spare_used, blank_key}
-use Rattle.card_keys.specs.Keys.{key_code, Handed}
+use Rattle.std.specs.Prelude.{Result, Ok, Err}
+use Rattle.std.proofs.Common.{Bor}
+use Rattle.command.specs.declared.Refusal.{Refusal}
+use Rattle.command.specs.Decode.{refusal_number}
+use Rattle.command.proofs.Numbers.{refused}
+use Rattle.card_keys.specs.Keys.{key_code, HandedKey, Handed}
 
 module _ (c k : ℕ) (key iv : List ℕ) (ek : k ≡ (cipher_at c).key) where
   spare-is : (b : Bool) → both (all_zero (drop k key)) (all_zero (drop (cipher_at c).iv iv)) ≡ b → spare_used c key iv ≡ not b
@@ -66,40 +71,22 @@ none-by c key iv z = by (spare_used c key iv) (blank_key c key) refl refl
 
 -- ---- what is handed out
 
-module _ (c : ℕ) (key iv : List ℕ) {r : ℕ} (e : r ≡ key_code c key iv) where
-  not-blank : r ≡ 0 → all_zero (take (cipher_at c).key key) ≡ false
-  unfolding blank_key
-  not-blank z = (none-by c key iv (sym e ∙ z)).1
+pub handed : (c : ℕ) (key iv : List ℕ) {k : ℕ} → 0 ≡ key_code c key iv → k ≡ (cipher_at c).key → HandedKey c key iv (take k key)
+unfolding blank_key
+handed c key iv {k} z ek =
+    let own : take k key ≡ take (cipher_at c).key key = ap (λ (x : ℕ). take x key) ek in
+    record { passed = sym z; own = own; not-blank = ap all_zero own ∙ (none-by c key iv (sym z)).1 }
 
-  pub handed : {k : ℕ} → r ≡ 0 → k ≡ (cipher_at c).key → Handed c key iv (take k key)
-  handed {k} z ek =
-      let own : take k key ≡ take (cipher_at c).key key = ap (λ (x : ℕ). take x key) ek in
-      let blank : all_zero (take k key) ≡ false = ap all_zero own ∙ not-blank z in
-      record {
-        own = λ y. own;
-        not-blank = λ y. blank;
-        none = λ f. absurd (f (sym e ∙ z));
-        only = λ n y. true≢false (sym (ap all_zero n) ∙ blank);
-      }
+-- what is not handed out is refused by the key's number
+pub nothing : (c : ℕ) (key iv : List ℕ) (e : Refusal) → refusal_number e ≡ key_code c key iv → Handed c key iv (Err e)
+nothing c key iv e h = h
 
-  pub nothing : {part : List ℕ} → (r ≡ 0 → ⊥) → part ≡ [] → Handed c key iv part
-  nothing f n = record { own = λ z. absurd (f (e ∙ z)); not-blank = λ z. absurd (f (e ∙ z)); none = λ g. n; only = λ m z. f (e ∙ z) }
+-- a part is handed out exactly where that number is 0, since no refusal has it
+pub handed-code : (c : ℕ) (key iv : List ℕ) (part : Bor (List ℕ)) → Handed c key iv (Ok part) → key_code c key iv ≡ 0
+handed-code c key iv part h = h.passed
 
-none-long : (l : List ℕ) → length l ≡ 0 → l ≡ []
-none-long [] e = refl
-none-long (x ∷ l) e = absurd (omega (arith, e))
-
--- what was handed out tells the number
-module _ {c : ℕ} {key iv part : List ℕ} (h : Handed c key iv part) where
-  pub handed-code : (length part ≡ 0 → ⊥) → key_code c key iv ≡ 0
-  handed-code f = by (key_code c key iv) refl
-    where
-      by : (n : ℕ) → key_code c key iv ≡ n → key_code c key iv ≡ 0
-      by zero e = e
-      by (suc n) e = absurd (f (ap length (h.none (λ z. let x : suc n ≡ 0 = sym e ∙ z in omega arith))))
-
-  pub nothing-code : length part ≡ 0 → key_code c key iv ≡ 0 → ⊥
-  nothing-code e = h.only (none-long part e)
+pub nothing-code : (c : ℕ) (key iv : List ℕ) (e : Refusal) → Handed c key iv (Err e) → key_code c key iv ≡ 0 → ⊥
+nothing-code c key iv e h z = refused e (h ∙ z)
 
 -- the bytes of a key are there
 pub field-full : (at : ℕ) (l : List ℕ) → at + key_length ≤ length l → length (take key_length (drop at l)) ≡ key_length

@@ -1,10 +1,24 @@
 -- What refuses a key and an IV, which key is handed out, and what an open and a change with them come to.
 -- Assumes nothing.
-use Rattle.std.specs.Prelude.{◌≡◌, Bool, false, not, List, [], ℕ, eqb, take, drop}
+use Rattle.std.specs.Prelude.{◌≡◌, Bool, true, false, not, List, [], ℕ, eqb, take, drop, Result, MatchResult}
+use Rattle.std.specs.Borrow.{Bor}
 use Rattle.words.specs.Tests.{pick}
 use Rattle.card_sizes.specs.Sizes.{key_length, load_length, start_length}
+use Rattle.command.specs.declared.Refusal.{Refusal}
+use Rattle.command.specs.Decode.{refusal_number}
+use Rattle.card_keys.specs.declared.Place.{Place}
+use Rattle.card_keys.specs.declared.Place.TheVariants.{InTray, InCommand}
 use Rattle.ciphers.specs.Table.{cipher_at, all_zero}
 use Rattle.machine.specs.Machine.{Effect, refuse_if, put, change, start, opened, loaded_line, key_for, iv_for, stream_of, spare_used, blank_key}
+
+-- whether a command brings its key, else it is a part of the tray; and the byte that it begins at
+abbrev pub is_own : Place → Bool
+is_own (InTray at) = false
+is_own (InCommand at) = true
+
+abbrev pub at_of : Place → ℕ
+at_of (InTray at) = at
+at_of (InCommand at) = at
 
 -- the bytes of a key: those from byte at on of the command that brings its own, or of the tray
 abbrev pub key_bytes : Bool → ℕ → (tray command : List ℕ) → List ℕ
@@ -14,12 +28,15 @@ key_bytes own at tray command = take key_length (drop at (pick own command tray)
 unfoldable pub key_code : ℕ → (key iv : List ℕ) → ℕ
 key_code c key iv = pick (spare_used c key iv) 7 (pick (blank_key c key) 16 0)
 
--- What is handed out of the bytes of a key: those of the cipher's own length, not all zero; nothing exactly where the number is not 0.
-pub record Handed (c : ℕ) (key iv part : List ℕ) : Type 0 where
-  pub own : key_code c key iv ≡ 0 → part ≡ take (cipher_at c).key key
-  pub not-blank : key_code c key iv ≡ 0 → all_zero part ≡ false
-  pub none : (key_code c key iv ≡ 0 → ⊥) → part ≡ []
-  pub only : part ≡ [] → key_code c key iv ≡ 0 → ⊥
+-- a key that is handed out of the bytes of a key: those of the cipher's own length, not all zero
+pub record HandedKey (c : ℕ) (key iv part : List ℕ) : Type 0 where
+  pub passed : key_code c key iv ≡ 0
+  pub own : part ≡ take (cipher_at c).key key
+  pub not-blank : all_zero part ≡ false
+
+-- What is handed out of the bytes of a key; where their number is not 0 that refusal.
+abbrev pub Handed : ℕ → (key iv : List ℕ) → Result (Bor (List ℕ)) Refusal → Type 0
+Handed c key iv r = MatchResult r (λ part. HandedKey c key iv part.now) (λ e. refusal_number e ≡ key_code c key iv)
 
 -- an effect that the number of a key and an IV may refuse
 abbrev pub keyed_with : ℕ → (key iv : List ℕ) → Effect → Effect

@@ -77,6 +77,10 @@ module _ (ws : List ℕ) (i : ℕ) (h : i < line_count) (n : length ws ≡ card_
   pub part_held : Held line_count ws → LineHeld (take (line_size * i + line_size - line_size * i) (drop (line_size * i) ws))
   part_held k = subst LineHeld (sym part-is) (record { size = words-length; words = k i h })
 
+-- the words of a line of a card that is as a call leaves it hold the line
+pub held-of : (ws : List ℕ) (i : ℕ) → Sound ws → i < line_count → {ys : List ℕ} → ys ≡ words_at ws i → length ys ≡ line_size → LineHeld ys
+held-of ws i s h e n = record { size = n; words = ap (λ (x : List ℕ). line_words (line_in x)) e ∙ s.held i h ∙ sym e }
+
 -- ---- a line that is set
 
 held-rest : (k : ℕ) (ws : List ℕ) → Held (suc k) ws → Held k (drop line_size ws)

@@ -11,7 +11,7 @@ use borrow.Author.Tests.{eqb-true, leb-true, eq-eqb, ne_eqb}
 use lib.Dec.{eqb, leb, lit<}
 use lib.Arith.{digits_div, digits_mod}
 use lib.ListN.{length, get_or, take, drop, set, replicate}
-use lib.Seq.{sets-eq}
+use lib.Seq.{sets-eq, drop-drop}
 use Rattle.words.specs.Lists.{tab}
 use Rattle.words.specs.Tests.{both, pick}
 use Rattle.words.proofs.Registers.{listed}
@@ -68,6 +68,10 @@ module _ (ws : List ℕ) (n : length ws ≡ line_size) where
   pub state-slice : take state_words (drop head_words ws) ≡ (line_in ws).words
   unfolding line_in
   state-slice = ap (λ (x : List ℕ). take state_words (drop head_words x)) each ∙ sym (ap (λ (x : List ℕ). tab state_words (λ k. get_or x (head_words + k) 0)) each)
+
+  pub state-full : length (take state_words (drop head_words ws)) ≡ state_words
+  unfolding line_in
+  state-full = ap length state-slice
 
   pub waiting-slice : take state_words (drop waiting_at ws) ≡ (line_in ws).waiting
   unfolding line_in
@@ -202,17 +206,17 @@ loaded-line ws m = sym (by_mode ws 2 m)
 
 -- ---- a line's words, written
 
--- four words, stored one by one
-pub four-stored : (a b c d : ℕ) (o : List ℕ) → head_words ≤ length o → set (set (set (set o 0 a) 1 b) 2 c) 3 d ≡ (a ∷ b ∷ c ∷ d ∷ []) ++ drop head_words o
-four-stored a b c d o h = sets-eq (a ∷ b ∷ c ∷ d ∷ []) o 0 h
+-- two words stored, and a number's two words behind them
+pub head-stored : (a b : ℕ) (ys o : List ℕ) → head_words ≤ length o → put_mid 2 2 (set (set o 0 a) 1 b) ys ≡ (a ∷ b ∷ ys) ++ drop head_words o
+head-stored a b ys o h =
+    ap (λ (x : List ℕ). put_mid 2 2 x ys) (sets-eq (a ∷ b ∷ []) o 0 (omega (arith, h))) ∙ ap (λ (x : List ℕ). a ∷ b ∷ (ys ++ x)) (drop-drop 2 2 o)
 
 -- a state among zeros, and the words before it
-pub head-state : (m c n : ℕ) (state zs ys ws : List ℕ) → zs ≡ line_words idle_line → length state ≡ state_words → ys ≡ state ++ drop (length state) (take state_words (drop head_words zs)) →
+pub head-state : (m c n : ℕ) (state zs ys ws : List ℕ) → zs ≡ line_words idle_line → ys ≡ state →
     ws ≡ (m ∷ c ∷ n / 2 ^ 32 ∷ n % 2 ^ 32 ∷ []) ++ drop head_words (put_mid head_words state_words zs ys) → ws ≡ line_words (plain_line m c n state)
 unfolding line_words
-head-state m c n state zs ys ws z k y e =
-    let s : ys ≡ state = y ∙ ap₂ (λ (i : ℕ) (x : List ℕ). state ++ drop i (take state_words (drop head_words x))) k z ∙ append-nil state in
-    e ∙ ap₂ (λ (x v : List ℕ). (m ∷ c ∷ n / 2 ^ 32 ∷ n % 2 ^ 32 ∷ []) ++ drop head_words (put_mid head_words state_words x v)) z s
+head-state m c n state zs ys ws z y e =
+    e ∙ ap₂ (λ (x v : List ℕ). (m ∷ c ∷ n / 2 ^ 32 ∷ n % 2 ^ 32 ∷ []) ++ drop head_words (put_mid head_words state_words x v)) z y
 
 -- a state that came back from where it was lent, and the words before it written anew; the change that waits stays
 back_by : (m c n m₀ c₀ n₀ d : ℕ) (f : ℕ → ℕ) (v state : List ℕ) →
@@ -236,22 +240,11 @@ change-by : (p m c n d : ℕ) (f g : ℕ → ℕ) (state : List ℕ) →
     put_mid waiting_at state_words (dued p (fields m c n (tab state_words f) d (tab state_words g))) state ≡ fields m c n (tab state_words f) p (state ++ [])
 change-by p m c n d f g state = refl
 
-change-written : (p : ℕ) (state ws ys : List ℕ) → LineHeld ws → length state ≡ state_words → ys ≡ state ++ drop (length state) (take state_words (drop waiting_at (dued p ws))) →
-    put_mid waiting_at state_words (dued p ws) ys ≡ line_words (with_change (line_in ws) p state)
+pub change-put : (p : ℕ) (state ws vs ys : List ℕ) → LineHeld ws → vs ≡ p / 2 ^ 32 ∷ p % 2 ^ 32 ∷ [] → ys ≡ state →
+    put_mid waiting_at state_words (put_mid due_at 2 ws vs) ys ≡ line_words (with_change (line_in ws) p state)
 unfolding line_in line_words
-change-written p state ws ys h k y =
-    let none : drop state_words (take state_words (drop waiting_at (dued p (line_words (line_in ws))))) ≡ [] = refl in
-    let s : ys ≡ state =
-    y
-    ∙ ap₂ (λ (i : ℕ) (x : List ℕ). state ++ drop i (take state_words (drop waiting_at (dued p x)))) k (sym h.words)
-    ∙ ap (λ (x : List ℕ). state ++ x) none
-    ∙ append-nil state in
-    ap₂ (λ (x v : List ℕ). put_mid waiting_at state_words (dued p x) v) (sym h.words) s
+change-put p state ws vs ys h v y =
+    ap₂ (λ (x y : List ℕ). put_mid waiting_at state_words (put_mid due_at 2 ws x) y) v y
+    ∙ ap (λ (x : List ℕ). put_mid waiting_at state_words (dued p x) state) (sym h.words)
     ∙ change-by p (line_in ws).mode (line_in ws).cipher (line_in ws).n (line_in ws).due (λ i. get_or ws (head_words + i) 0) (λ i. get_or ws (waiting_at + i) 0) state
     ∙ ap (fields (line_in ws).mode (line_in ws).cipher (line_in ws).n (line_in ws).words p) (append-nil state)
-
-pub change-put : (p : ℕ) (state ws vs ys : List ℕ) → LineHeld ws → length state ≡ state_words → vs ≡ p / 2 ^ 32 ∷ p % 2 ^ 32 ∷ [] →
-    ys ≡ state ++ drop (length state) (take state_words (drop waiting_at (put_mid due_at 2 ws vs))) → put_mid waiting_at state_words (put_mid due_at 2 ws vs) ys ≡ line_words (with_change (line_in ws) p state)
-change-put p state ws vs ys h k v y =
-    ap (λ (x : List ℕ). put_mid waiting_at state_words (put_mid due_at 2 ws x) ys) v
-    ∙ change-written p state ws ys h k (y ∙ ap (λ (x : List ℕ). state ++ drop (length state) (take state_words (drop waiting_at (put_mid due_at 2 ws x)))) v)

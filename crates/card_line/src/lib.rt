@@ -2,7 +2,7 @@
 // The caller must ensure that a line has its words.
 #![tactic(auto)]
 
-ghost use Rattle.std.specs.Prelude.{◌≡◌, [], ◌∷◌, ◌++◌, ◌+◌, ◌/◌, ◌%◌, ◌^◌, ◌<◌, ◌≤◌, min, length, get_or, drop};
+ghost use Rattle.std.specs.Prelude.{◌≡◌, [], ◌∷◌, ◌++◌, ◌+◌, ◌*◌, ◌/◌, ◌%◌, ◌^◌, ◌<◌, ◌≤◌, min, length, get_or, drop};
 ghost use Rattle.card_sizes.specs.Sizes.{state_words, head_words, due_at, line_size};
 ghost use Rattle.machine.specs.Machine.{plain_line, idle_line};
 ghost use Rattle.card_line.specs.Words.{line_in, line_words, with_change, LineHeld};
@@ -13,14 +13,16 @@ use card_sizes::{DUE, HEAD, LINE, WAITING};
 fn byte(w: u32) -> u8
     ensures { result ≡ min w 255 }
 {
-    if w < 255 { w as u8 } else { 255 }
+    u8::try_from(w).unwrap_or(255)
 }
 
-// A word as a number of 64 bits.
-fn wide(w: u32) -> u64
-    ensures { (result ≡ w) × (result < 4294967296) }
+// The number of 64 bits in two words of a line, the upper half in word k; that the lower half is a word is told as well.
+fn number_at(line: &[u32], k: usize) -> u64
+    requires { k + 1 < length line.now }
+    ensures { (result ≡ get_or line.now k 0 * 2 ^ 32 + get_or line.now (k + 1) 0) ×
+        (get_or line.now (k + 1) 0 < 2 ^ 32) }
 {
-    w as u64
+    u64::from(line[k]) * 4294967296 + u64::from(line[k + 1])
 }
 
 // The mode of the line that stands in words.
@@ -44,9 +46,7 @@ pub fn position_of(line: &[u32]) -> u64
     requires { length line.now ≡ line_size }
     ensures { (result ≡ (line_in line.now).n) × (get_or line.now 3 0 < 2 ^ 32) }
 {
-    let high = wide(line[2]);
-    let low = wide(line[3]);
-    high * 4294967296 + low
+    number_at(line, 2)
 }
 
 // The position of the change that waits on it, 0 for none; that the lower half is a word is told as well.
@@ -54,43 +54,7 @@ pub fn due_of(line: &[u32]) -> u64
     requires { length line.now ≡ line_size }
     ensures { (result ≡ (line_in line.now).due) × (get_or line.now (due_at + 1) 0 < 2 ^ 32) }
 {
-    let high = wide(line[DUE]);
-    let low = wide(line[DUE + 1]);
-    high * 4294967296 + low
-}
-
-// The words before a line's state go to the start of line.
-pub fn put_head(mode: u32, cipher: u8, n: u64, line: &mut [u32])
-    requires { head_words ≤ length line.old }
-    ensures { line.new ≡ (mode ∷ cipher ∷ n / 2 ^ 32 ∷ n % 2 ^ 32 ∷ []) ++ drop head_words line.old }
-{
-    line[0] = mode;
-    line[1] = cipher as u32;
-    line[2] = (n / 4294967296) as u32;
-    line[3] = (n % 4294967296) as u32;
-}
-
-// All words are zero.
-pub fn clear(line: &mut [u32])
-    requires { length line.old ≡ line_size }
-    ensures { line.new ≡ line_words idle_line }
-{
-    let mut k: usize = 0;
-    while k < LINE {
-        line[k] = 0;
-        k += 1;
-    }
-}
-
-// The words of a line in this mode with nothing waiting.
-pub fn put_words(mode: u32, cipher: u8, n: u64, state: &[u32], line: &mut [u32])
-    requires line_len { length line.old ≡ line_size }
-    requires state_len { length state.now ≡ state_words }
-    ensures { line.new ≡ line_words (plain_line mode cipher n state.now) }
-{
-    clear(line);
-    buffer::put_words(state, &mut line[HEAD..DUE]);
-    put_head(mode, cipher, n, line);
+    number_at(line, DUE)
 }
 
 // A number's two words.
@@ -102,6 +66,35 @@ fn put_number(n: u64, w: &mut [u32])
     w[1] = (n % 4294967296) as u32;
 }
 
+// The words before a line's state go to the start of line.
+pub fn put_head(mode: u32, cipher: u8, n: u64, line: &mut [u32])
+    requires { head_words ≤ length line.old }
+    ensures { line.new ≡ (mode ∷ cipher ∷ n / 2 ^ 32 ∷ n % 2 ^ 32 ∷ []) ++ drop head_words line.old }
+{
+    line[0] = mode;
+    line[1] = u32::from(cipher);
+    put_number(n, &mut line[2..HEAD]);
+}
+
+// All words are zero.
+pub fn clear(line: &mut [u32])
+    requires { length line.old ≡ line_size }
+    ensures { line.new ≡ line_words idle_line }
+{
+    line.fill(0);
+}
+
+// The words of a line in this mode with nothing waiting.
+pub fn put_words(mode: u32, cipher: u8, n: u64, state: &[u32], line: &mut [u32])
+    requires line_len { length line.old ≡ line_size }
+    requires state_len { length state.now ≡ state_words }
+    ensures { line.new ≡ line_words (plain_line mode cipher n state.now) }
+{
+    clear(line);
+    line[HEAD..DUE].copy_from_slice(state);
+    put_head(mode, cipher, n, line);
+}
+
 // A change waits at position p, to the stream that begins with this state.
 pub fn put_change(p: u64, state: &[u32], line: &mut [u32])
     requires line_held { LineHeld line.old }
@@ -109,5 +102,5 @@ pub fn put_change(p: u64, state: &[u32], line: &mut [u32])
     ensures { line.new ≡ line_words (with_change (line_in line.old) p state.now) }
 {
     put_number(p, &mut line[DUE..WAITING]);
-    buffer::put_words(state, &mut line[WAITING..LINE]);
+    line[WAITING..LINE].copy_from_slice(state);
 }

@@ -14,14 +14,15 @@ ghost use Rattle.machine.specs.Machine.{iv_for};
 ghost use Rattle.machine.specs.Calls.{line_on};
 ghost use Rattle.card_layout.specs.Words.{card_in, Sound};
 ghost use Rattle.card_keys.specs.Keys.{key_bytes, load_with, start_with};
+ghost use Rattle.card_outcome.specs.Outcomes.{outcome_for};
 ghost use Rattle.card_outcome.specs.Leaves.{call_of, EffectLeaves, CommandLeaves};
 
-use card_keys::{iv_clear, key_number, key_part};
-use card_outcome::{Outcome, accepted, refused};
-use card_rows::tray_code;
-use card_sizes::{DUE, HEAD, KEY, LINE, LOAD, START, START_IV, STATE};
+use card_keys::{Place, iv_clear, key_part};
+use card_outcome::Counts;
+use card_rows::tray_check;
+use card_sizes::{DUE, HEAD, KEY, LOAD, START, START_IV, STATE};
 use ciphers::{key_of, number_of};
-use command::{Cipher, CipherRead, read_cipher};
+use command::{Cipher, Refusal};
 
 // What a loaded line keeps of a key of the cipher's own length.
 fn keep(c: Cipher, key: &[u8]) -> [u32; STATE]
@@ -34,40 +35,48 @@ fn keep(c: Cipher, key: &[u8]) -> [u32; STATE]
     }
 }
 
-// Line i is loaded with the key that is handed out, or refused with the key's number where none is.
-fn load_line(card: &mut [u32], i: u8, cipher: Cipher, tray: &[u8], at: usize) -> Outcome
+// Line i is loaded with the key that is handed out, or refused where none is.
+fn load_line(
+    card: &mut [u32],
+    i: u8,
+    cipher: Cipher,
+    tray: &[u8],
+    at: usize,
+) -> Result<Counts, Refusal>
     requires sound { Sound card.old × (i < line_count) }
     requires key_length_in_bounds { at + key_length ≤ length tray.now }
     ensures { (text out : List ℕ) → EffectLeaves card.old text out
         (load_with i (number_of cipher) (key_bytes false at tray.now tray.now))
-        result card.new out }
+        (outcome_for result) card.new out }
 {
     let none = &tray[..0];
-    let key = key_part(tray, tray, false, at, cipher, none);
-    if key.len() == 0 {
-        let code = key_number(tray, tray, false, at, cipher, none);
-        return refused(code);
-    }
-    let number = number_of(cipher);
+    let key = key_part(tray, tray, Place::InTray(at), cipher, none)?;
     let kept = keep(cipher, key);
-    card_layout::put_line(2, number, 0, &kept, card, i);
-    accepted(LOAD, 0, 0)
+    card_layout::put_line(2, number_of(cipher), 0, &kept, card, i);
+    Ok(Counts {
+        used_command: LOAD,
+        used_data: 0,
+        written: 0,
+    })
 }
 
 // A load with a key of the tray.
-pub fn run_load(card: &mut [u32], i: u8, cipher: Cipher, number: u8, tray: &[u8]) -> Outcome
+pub fn run_load(
+    card: &mut [u32],
+    i: u8,
+    cipher: Cipher,
+    number: u8,
+    tray: &[u8],
+) -> Result<Counts, Refusal>
     requires { Sound card.old × (i < line_count) }
     ensures { (command text out : List ℕ) → CommandLeaves card.old (Load i cipher number)
-        (call_of command tray.now text out) result card.new out }
+        (call_of command tray.now text out) (outcome_for result) card.new out }
 {
     let mode = card_layout::mode_at(card, i);
     if mode != 0 {
-        return refused(5);
+        return Err(Refusal::NotIdle);
     }
-    let code = tray_code(tray.len(), number);
-    if code != 0 {
-        return refused(code);
-    }
+    tray_check(tray.len(), number)?;
     let at = KEY * (number as usize);
     load_line(card, i, cipher, tray, at)
 }
@@ -103,44 +112,44 @@ fn started(card: &[u32], i: u8, cipher: Cipher, iv: &[u8]) -> [u32; STATE]
     requires iv_len { length iv.now ≡ iv_length }
     ensures { result ≡ start_of (number_of cipher) (line_on (card_in card.now) i).words (iv_for (number_of cipher) iv.now) }
 {
-    let at = LINE * (i as usize);
-    let end = at + LINE;
-    let line = &card[at..end];
+    let line = card_layout::line_of(card, i);
     start(cipher, &line[HEAD..DUE], iv)
 }
 
 // Loaded line i, of this cipher, is started with an IV, or refused with 7 for the IV.
-fn start_line(card: &mut [u32], i: u8, cipher: Cipher, iv: &[u8]) -> Outcome
+fn start_line(card: &mut [u32], i: u8, cipher: Cipher, iv: &[u8]) -> Result<Counts, Refusal>
     requires sound { Sound card.old × (i < line_count) }
     requires i_value { ((line_on (card_in card.old) i).mode ≡ 2) × ((line_on (card_in card.old) i).cipher ≡ number_of cipher) }
     requires iv_len { length iv.now ≡ iv_length }
     ensures { (text out : List ℕ) → EffectLeaves card.old text out (start_with i 2 (number_of cipher) iv.now)
-        result card.new out }
+        (outcome_for result) card.new out }
 {
-    let clear = iv_clear(cipher, iv);
-    if !clear {
-        return refused(7);
+    if !iv_clear(cipher, iv) {
+        return Err(Refusal::BeyondLength);
     }
-    let number = number_of(cipher);
     let state = started(card, i, cipher, iv);
-    card_layout::put_line(1, number, 0, &state, card, i);
-    accepted(START, 0, 0)
+    card_layout::put_line(1, number_of(cipher), 0, &state, card, i);
+    Ok(Counts {
+        used_command: START,
+        used_data: 0,
+        written: 0,
+    })
 }
 
 // A start of line i.
-pub fn run_start(card: &mut [u32], i: u8, command: &[u8]) -> Outcome
+pub fn run_start(card: &mut [u32], i: u8, command: &[u8]) -> Result<Counts, Refusal>
     requires sound { Sound card.old × (i < line_count) }
     requires start_length_in_bounds { start_length ≤ length command.now }
     ensures { (tray text out : List ℕ) → CommandLeaves card.old (Start i)
-        (call_of command.now tray text out) result card.new out }
+        (call_of command.now tray text out) (outcome_for result) card.new out }
 {
     let mode = card_layout::mode_at(card, i);
     if mode != 2 {
-        return refused(19);
+        return Err(Refusal::NotLoaded);
     }
     let named = card_layout::cipher_at(card, i);
-    let CipherRead::Is(cipher) = read_cipher(named) else {
-        return refused(255);
+    let Ok(cipher) = Cipher::try_from(named) else {
+        return Err(Refusal::Damaged);
     };
     let iv = &command[START_IV..START];
     start_line(card, i, cipher, iv)

@@ -5,11 +5,10 @@ use mathlib.Core.List.{List}
 use Prim.Native.Nat.{ℕ, zero, suc, ◌+◌, ◌-◌, ◌*◌, ◌/◌, ◌%◌, ◌^◌, ◌<◌, ◌≤◌, min}
 use native.Mathlib.Decide.{dec_lt}
 use native.Mathlib.Nat.{mul-le-mul_right, not-suc-le-zero}
-use native.Mathlib.Numerals.{add-one}
 use native.Mathlib.Omega.{arith}
 use lib.ListN.{length, get_or, set, length-set}
 use lib.Seq.{get_or-set_other}
-use Rattle.card_mix.specs.Columns.{raised_at, clamped_sum, stored, total_at, shared_out, column_of, columns_of, ColumnAsks}
+use Rattle.card_mix.specs.Columns.{raised_at, clamped_sum, stored, total_at, shared_out, column_of, columns_of}
 
 -- ---- where a sample stands
 
@@ -22,14 +21,13 @@ in-part k m n at h q =
     let z : (k + 1) * n ≤ m * n = mul-le-mul_right n (let e : k + 1 ≤ m = omega arith in e) in
     omega (arith, z, part-more k n)
 
-pub in_buffer : (m n at k : ℕ) (l : List ℕ) → ColumnAsks m n at l → k < m → k * n + at + 2 ≤ length l
-in_buffer m n at k l a h = let z = in-part k m n at h a.within in let r = a.room in omega (arith, z, r)
-
 -- ---- clamped
 
-pub clamp-is : (s c : ℕ) {x y : ℕ} → x ≡ s + 32768 - 32768 * c → y ≡ min 65535 x → ((y + 32768) % 65536 ≡ clamped_sum s c) × ((y + 32768) % 65536 < 65536)
+pub clamp-is : (s c : ℕ) {x y : ℕ} → x ≡ s + 32768 - 32768 * c → y ≡ min x 65535 → (y + 32768) % 65536 ≡ clamped_sum s c
 unfolding clamped_sum
-clamp-is s c {x} {y} e f = (ap (λ (z : ℕ). (z + 2 ^ 15) % 2 ^ 16) (f ∙ ap (min (2 ^ 16 - 1)) e), omega arith)
+clamp-is s c {x} {y} e f =
+    let k : min x 65535 ≡ min 65535 x = omega arith in
+    ap (λ (z : ℕ). (z + 2 ^ 15) % 2 ^ 16) (f ∙ k ∙ ap (min (2 ^ 16 - 1)) e)
 
 -- ---- the total
 
@@ -78,14 +76,6 @@ own-kept (suc k) n at t o l i q h =
     let z = in-part k i n at h q in
     raised-other (shared_out k n at t o l) (k * n + at) _ (i * n + at) (omega (arith, z)) ∙ own-kept k n at t o l i q (omega arith)
 
--- one member more
-pub shared-more : (k n at t o : ℕ) (l s s' : List ℕ) {own x : ℕ} → s ≡ shared_out k n at t o l → own ≡ raised_at s (k * n + at) → x ≡ clamped_sum (t - own) o →
-    s' ≡ stored s (k * n + at) x → s' ≡ shared_out (k + 1) n at t o l
-shared-more k n at t o l s s' e f g h =
-    h ∙ ap (stored s (k * n + at)) (g ∙ ap (λ (y : ℕ). clamped_sum (t - y) o) f)
-    ∙ ap (λ (y : List ℕ). stored y (k * n + at) (clamped_sum (t - raised_at y (k * n + at)) o)) e
-    ∙ sym (ap (λ (i : ℕ). shared_out i n at t o l) (add-one k))
-
 -- ---- column by column
 
 pub column-is : (m n at : ℕ) (l s' : List ℕ) {t : ℕ} → t ≡ total_at m n at l → s' ≡ shared_out m n at t (m - 1) l → s' ≡ column_of m n at l
@@ -99,9 +89,3 @@ column-length m n at l = shared-length m n at (total_at m n at l) (m - 1) l
 pub columns-length : (j m n : ℕ) (l : List ℕ) → length (columns_of j m n l) ≡ length l
 columns-length zero m n l = refl
 columns-length (suc j) m n l = column-length m n (2 * j) (columns_of j m n l) ∙ columns-length j m n l
-
-pub columns-more : (j m n : ℕ) (l s s' : List ℕ) → s ≡ columns_of j m n l → s' ≡ column_of m n (2 * j) s → s' ≡ columns_of (j + 1) m n l
-columns-more j m n l s s' e h = h ∙ ap (column_of m n (2 * j)) e ∙ sym (ap (λ (i : ℕ). columns_of i m n l) (add-one j))
-
-pub one-part : (m n : ℕ) → 1 ≤ m → n ≤ m * n
-one-part m n h = let z : 1 * n ≤ m * n = mul-le-mul_right n h in omega (arith, z)

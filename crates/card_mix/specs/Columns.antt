@@ -1,6 +1,6 @@
 -- How the sums are worked out in place: sample by sample, of each sample the total of all members first, and then in each member's place the total without its own.
 -- Assumes nothing.
-use Rattle.std.specs.Prelude.{List, ℕ, zero, suc, ◌+◌, ◌-◌, ◌*◌, ◌/◌, ◌%◌, ◌^◌, ◌≤◌, min, length, set}
+use Rattle.std.specs.Prelude.{List, ℕ, zero, suc, ◌+◌, ◌-◌, ◌*◌, ◌/◌, ◌%◌, ◌^◌, min, set}
 use Rattle.card_mix.specs.Sums.{two_at}
 
 -- the sample at byte i, 32,768 higher
@@ -28,12 +28,6 @@ shared_out (suc k) n at total others l =
 -- one sample of all members
 unfoldable pub column_of : (m n at : ℕ) → List ℕ → List ℕ
 column_of m n at l = shared_out m n at (total_at m n at l) (m - 1) l
-
--- the members are four at most, and a sample at byte at of each part is in the buffer
-pub record ColumnAsks (m n at : ℕ) (l : List ℕ) : Type 0 where
-  pub few : m ≤ 4
-  pub within : at + 2 ≤ n
-  pub room : m * n ≤ length l
 
 -- the first j samples
 abbrev pub columns_of : (j m n : ℕ) → List ℕ → List ℕ

@@ -2,101 +2,83 @@
 // The caller must ensure that the buffer has the members' parts, one behind the other.
 #![tactic(auto)]
 
-ghost use Rattle.std.specs.Prelude.{◌≡◌, ◌++◌, ◌+◌, ◌-◌, ◌*◌, ◌<◌, ◌≤◌, min, length, drop};
+ghost use Rattle.std.specs.Prelude.{◌≡◌, ◌++◌, ◌+◌, ◌-◌, ◌*◌, ◌<◌, ◌≤◌, length, drop};
 ghost use Rattle.card_mix.specs.Parts.{mixes_of};
-ghost use Rattle.card_mix.specs.Columns.{raised_at, clamped_sum, stored, total_at, shared_out, column_of, ColumnAsks};
-
-// A byte as a number of 32 bits.
-fn wide(x: u8) -> u32
-    ensures { (result ≡ x) × (result < 256) }
-{
-    x as u32
-}
+ghost use Rattle.card_mix.specs.Columns.{raised_at, clamped_sum, stored, total_at, shared_out, column_of};
 
 // The sample at byte at, 32,768 higher.
-fn sample(s: &[u8], at: usize) -> u32
+fn sample(s: &[u8], at: usize) -> u16
     requires { at + 2 ≤ length s.now }
-    ensures { (result ≡ raised_at s.now at) × (result < 65536) }
+    ensures { result ≡ raised_at s.now at }
 {
-    let high = wide(s[at]);
-    let low = wide(s[at + 1]);
-    (high * 256 + low + 32768) % 65536
-}
-
-// By how much x is above y, and 0 where it is not.
-fn above(x: u32, y: u32) -> u32
-    ensures { result ≡ x - y }
-{
-    if x < y { 0 } else { x - y }
-}
-
-// The lesser of two numbers.
-fn least(x: u32, y: u32) -> u32
-    ensures { result ≡ min x y }
-{
-    if x < y { x } else { y }
+    u16::from_be_bytes([s[at], s[at + 1]]).wrapping_add(32768)
 }
 
 // A sum of so many samples, each 32,768 higher, clamped, in its 16 bits.
-fn clamp(sum: u32, count: u32) -> u32
+fn clamp(sum: u32, count: u32) -> u16
     requires { (sum < 262144) × (count ≤ 4) }
-    ensures { (result ≡ clamped_sum sum count) × (result < 65536) }
+    ensures { result ≡ clamped_sum sum count }
 {
-    let up = sum + 32768;
-    let down = 32768 * count;
-    let x = above(up, down);
-    let y = least(65535, x);
-    (y + 32768) % 65536
+    let x = (sum + 32768).saturating_sub(32768 * count);
+    (x.min(65535) as u16).wrapping_add(32768)
 }
 
 // The 16 bits of x go to byte at.
-fn put_sample(x: u32, s: &mut [u8], at: usize)
-    requires { (x < 65536) × (at + 2 ≤ length s.old) }
+fn put_sample(x: u16, s: &mut [u8], at: usize)
+    requires { at + 2 ≤ length s.old }
     ensures { s.new ≡ stored s.old at x }
 {
-    s[at] = (x / 256) as u8;
-    s[at + 1] = (x % 256) as u8;
+    let b = x.to_be_bytes();
+    s[at] = b[0];
+    s[at + 1] = b[1];
 }
 
-// The samples at byte at of all members' parts, in all.
-fn total(members: usize, size: usize, at: usize, s: &[u8]) -> u32
-    requires { ColumnAsks members size at s.now }
-    ensures { (result ≡ total_at members size at s.now) × (result < 262144) }
-{
-    let mut sum: u32 = 0;
-    let mut k: usize = 0;
-    while k < members {
-        let from = k * size + at;
-        sum += sample(s, from);
-        k += 1;
+// One sample of all members: at byte at of each of their parts, of size bytes.
+#[derive(Clone, Copy)]
+struct Column {
+    members: usize,
+    size: usize,
+    at: usize,
+    ghost few: { (1 ≤ members) × (members ≤ 4) },
+    ghost within: { at + 2 ≤ size },
+}
+
+impl Column {
+    // The samples of all members, in all.
+    fn total(self, s: &[u8]) -> u32
+        requires { self.members * self.size ≤ length s.now }
+        ensures { (result ≡ total_at self.members self.size self.at s.now) × (result < 262144) }
+    {
+        let mut sum: u32 = 0;
+        for k in 0..self.members {
+            let from = k * self.size + self.at;
+            sum += sample(s, from) as u32;
+        }
+        sum
     }
-    sum
-}
 
-// In each member's place the total without its own sample, clamped.
-fn share_out(sum: u32, members: usize, size: usize, at: usize, s: &mut [u8])
-    requires column_asks { ColumnAsks members size at s.old }
-    requires le_members { (1 ≤ members) × (sum ≡ total_at members size at s.old) }
-    ensures { s.new ≡ shared_out members size at sum (members - 1) s.old }
-{
-    let others = (members - 1) as u32;
-    let mut k: usize = 0;
-    while k < members {
-        let from = k * size + at;
-        let own = sample(s, from);
-        let x = clamp(sum - own, others);
-        put_sample(x, s, from);
-        k += 1;
+    // In each member's place the total without its own sample, clamped.
+    fn share_out(self, sum: u32, s: &mut [u8])
+        requires room { self.members * self.size ≤ length s.old }
+        requires total { sum ≡ total_at self.members self.size self.at s.old }
+        ensures { s.new ≡ shared_out self.members self.size self.at sum (self.members - 1) s.old }
+    {
+        let others = (self.members - 1) as u32;
+        for k in 0..self.members {
+            let from = k * self.size + self.at;
+            let own = sample(s, from) as u32;
+            let x = clamp(sum - own, others);
+            put_sample(x, s, from);
+        }
     }
-}
 
-// One sample of all members.
-fn column(members: usize, size: usize, at: usize, s: &mut [u8])
-    requires { (1 ≤ members) × ColumnAsks members size at s.old }
-    ensures { s.new ≡ column_of members size at s.old }
-{
-    let sum = total(members, size, at, s);
-    share_out(sum, members, size, at, s);
+    // In each member's place the clamped sum of the others.
+    fn mix(self, s: &mut [u8])
+        requires { self.members * self.size ≤ length s.old }
+        ensures { s.new ≡ column_of self.members self.size self.at s.old }
+    {
+        self.share_out(self.total(s), s);
+    }
 }
 
 // In each member's place the clamped sums of the others.
@@ -105,10 +87,13 @@ fn mix_of(members: usize, samples: usize, s: &mut [u8])
     ensures { s.new ≡ mixes_of members (2 * samples) s.old ++ drop (members * (2 * samples)) s.old }
 {
     let size = 2 * samples;
-    let mut j: usize = 0;
-    while j < samples {
-        column(members, size, 2 * j, s);
-        j += 1;
+    for j in 0..samples {
+        let column = Column {
+            members,
+            size,
+            at: 2 * j,
+        };
+        column.mix(s);
     }
 }
 
@@ -117,13 +102,9 @@ pub fn mix(members: usize, samples: usize, s: &mut [u8])
     requires { (2 ≤ members) × ((members ≤ 4) × (members * (2 * samples) ≤ length s.old)) }
     ensures { s.new ≡ mixes_of members (2 * samples) s.old ++ drop (members * (2 * samples)) s.old }
 {
-    if members == 2 {
-        mix_of(2, samples, s);
-        return;
+    match members {
+        2 => mix_of(2, samples, s),
+        3 => mix_of(3, samples, s),
+        _ => mix_of(4, samples, s),
     }
-    if members == 3 {
-        mix_of(3, samples, s);
-        return;
-    }
-    mix_of(4, samples, s);
 }

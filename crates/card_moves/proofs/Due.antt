@@ -25,6 +25,18 @@ module _ (n d k : ℕ) where
       go true e = lt-leb d (n + k) (f (ltb-true n d e))
       go false e = refl
 
+  -- the test by differences, in which no sum wraps
+  pub by-difference : n < d → leb (d - n) k ≡ comes_due n d k
+  unfolding comes_due
+  by-difference h = go (leb (d - n) k) refl ∙ sym (ap (λ (b : Bool). both b (leb d (n + k))) (lt-ltb n d h))
+    where
+      go : (b : Bool) → leb (d - n) k ≡ b → b ≡ leb d (n + k)
+      go true q = let z = leb-true (d - n) k q in sym (le-leb d (n + k) (omega (arith, z, h)))
+      go false q = let z = leb-false (d - n) k q in sym (lt-leb d (n + k) (omega (arith, z, h)))
+
+  pub not-above : (n < d → ⊥) → ltb n d ≡ comes_due n d k
+  not-above f = le-ltb n d (omega (arith, f)) ∙ sym (due-no (λ h. absurd (f h)))
+
   pub due-told : comes_due n d k ≡ true → (n < d) × (d ≤ n + k)
   unfolding comes_due
   due-told h = go (ltb n d) refl h

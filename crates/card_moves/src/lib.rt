@@ -12,26 +12,16 @@ use card_sizes::LIMIT;
 pub fn comes_due(n: u64, due: u64, count: u64) -> bool
     ensures { result ≡ comes_due n due count }
 {
-    if due <= n {
-        return false;
-    }
-    if due - n > count {
-        return false;
-    }
-    true
+    n < due && due - n <= count
 }
 
 // Whether the position count bytes on is over 2^36, in the stream that the line is in then.
 pub fn beyond(n: u64, due: u64, count: u64) -> bool
     ensures { result ≡ ltb limit (position_on n due count) }
 {
-    let past = comes_due(n, due, count);
-    if past {
-        let after = count - (due - n);
-        return after > LIMIT;
+    if comes_due(n, due, count) {
+        count - (due - n) > LIMIT
+    } else {
+        count > LIMIT || n > LIMIT - count
     }
-    if count > LIMIT {
-        return true;
-    }
-    n > LIMIT - count
 }

@@ -8,45 +8,44 @@ ghost use Rattle.card_sizes.specs.Sizes.{line_count, key_length, iv_length, tray
 ghost use Rattle.command.specs.Decode.{number_of};
 ghost use Rattle.command.specs.declared.Command.TheVariants.{Tray, Own};
 ghost use Rattle.card_layout.specs.Words.{Sound};
-ghost use Rattle.card_keys.specs.Keys.{key_bytes, open_with};
+ghost use Rattle.card_keys.specs.Keys.{is_own, at_of, key_bytes, open_with};
+ghost use Rattle.card_outcome.specs.Outcomes.{outcome_for};
 ghost use Rattle.card_outcome.specs.Leaves.{call_of, EffectLeaves, CommandLeaves};
 
-use card_keys::{key_number, key_part};
-use card_outcome::{Outcome, accepted, refused};
-use card_rows::tray_code;
+use card_keys::{Place, key_part};
+use card_outcome::Counts;
+use card_rows::tray_check;
 use card_sizes::{KEY, OWN, OWN_IV, OWN_KEY, TRAY, TRAY_IV};
 use ciphers::number_of;
-use command::Cipher;
+use command::{Cipher, Refusal};
 use dispatch::first_state;
 
-// Line i is opened with the key that is handed out and an IV, or refused with the key's number where none is.
+// Line i is opened with the key that is handed out and an IV, or refused where none is.
 fn open_line<'a>(
     card: &mut [u32],
     i: u8,
     cipher: Cipher,
     tray: &'a [u8],
     command: &'a [u8],
-    own: bool,
-    at: usize,
+    place: Place,
     iv: &[u8],
-    used: usize,
-) -> Outcome
+    used_command: usize,
+) -> Result<Counts, Refusal>
     requires sound { Sound card.old × (i < line_count) }
-    requires key_length_in_bounds { at + key_length ≤ length (pick own command.now tray.now) }
+    requires key_in { at_of place + key_length ≤ length (pick (is_own place) command.now tray.now) }
     requires iv_len { length iv.now ≡ iv_length }
     ensures { (text out : List ℕ) → EffectLeaves card.old text out
-        (open_with i used (number_of cipher) (key_bytes own at tray.now command.now) iv.now)
-        result card.new out }
+        (open_with i used_command (number_of cipher) (key_bytes (is_own place) (at_of place) tray.now command.now) iv.now)
+        (outcome_for result) card.new out }
 {
-    let key = key_part(tray, command, own, at, cipher, iv);
-    if key.len() == 0 {
-        let code = key_number(tray, command, own, at, cipher, iv);
-        return refused(code);
-    }
-    let number = number_of(cipher);
+    let key = key_part(tray, command, place, cipher, iv)?;
     let state = first_state(cipher, key, iv);
-    card_layout::put_line(1, number, 0, &state, card, i);
-    accepted(used, 0, 0)
+    card_layout::put_line(1, number_of(cipher), 0, &state, card, i);
+    Ok(Counts {
+        used_command,
+        used_data: 0,
+        written: 0,
+    })
 }
 
 // An open with a key of the tray.
@@ -57,23 +56,20 @@ pub fn run_tray<'a>(
     number: u8,
     tray: &'a [u8],
     command: &'a [u8],
-) -> Outcome
+) -> Result<Counts, Refusal>
     requires sound { Sound card.old × (i < line_count) }
     requires tray_length_in_bounds { tray_length ≤ length command.now }
     ensures { (text out : List ℕ) → CommandLeaves card.old (Tray i cipher number)
-        (call_of command.now tray.now text out) result card.new out }
+        (call_of command.now tray.now text out) (outcome_for result) card.new out }
 {
     let mode = card_layout::mode_at(card, i);
     if mode != 0 {
-        return refused(5);
+        return Err(Refusal::NotIdle);
     }
-    let code = tray_code(tray.len(), number);
-    if code != 0 {
-        return refused(code);
-    }
-    let at = KEY * (number as usize);
+    tray_check(tray.len(), number)?;
+    let place = Place::InTray(KEY * (number as usize));
     let iv = &command[TRAY_IV..TRAY];
-    open_line(card, i, cipher, tray, command, false, at, iv, TRAY)
+    open_line(card, i, cipher, tray, command, place, iv, TRAY)
 }
 
 // An open with the command's own key.
@@ -83,16 +79,25 @@ pub fn run_own<'a>(
     cipher: Cipher,
     tray: &'a [u8],
     command: &'a [u8],
-) -> Outcome
+) -> Result<Counts, Refusal>
     requires sound { Sound card.old × (i < line_count) }
     requires own_length_in_bounds { own_length ≤ length command.now }
     ensures { (text out : List ℕ) → CommandLeaves card.old (Own i cipher)
-        (call_of command.now tray.now text out) result card.new out }
+        (call_of command.now tray.now text out) (outcome_for result) card.new out }
 {
     let mode = card_layout::mode_at(card, i);
     if mode != 0 {
-        return refused(5);
+        return Err(Refusal::NotIdle);
     }
     let iv = &command[OWN_IV..OWN];
-    open_line(card, i, cipher, tray, command, true, OWN_KEY, iv, OWN)
+    open_line(
+        card,
+        i,
+        cipher,
+        tray,
+        command,
+        Place::InCommand(OWN_KEY),
+        iv,
+        OWN,
+    )
 }

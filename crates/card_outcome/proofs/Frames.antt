@@ -1,14 +1,11 @@
 -- Two frames through the entries: crypts of two calls, on whatever cards, whose lines are seen alike give each other's text back, also where one end's line was taken up from an image. What a call
 -- wrote is what the card's step writes.
 -- Assumes nothing.
-use mathlib.Core.Path.{◌≡◌, refl, ap, sym, ◌∙◌}
+use mathlib.Core.Path.{◌≡◌, ap, sym, ◌∙◌}
 use mathlib.Core.List.{List}
 use Prim.Native.Nat.{ℕ}
 use lib.ListN.{length, take, drop}
 use lib.Seq.{take_at}
-use Rattle.command.specs.declared.Command.TheVariants.{Crypt}
-use Rattle.command.specs.declared.Decoded.TheVariants.{Run}
-use Rattle.command.specs.Decode.{decode_of}
 use Rattle.machine.specs.Machine.{Seen, Call, card_step, fresh_card}
 use Rattle.machine.specs.Calls.{Made, card_after, line_on, AllBytes}
 use Rattle.lists.specs.Logs.{did, did-park, did-resume}

@@ -4,18 +4,22 @@
 use mathlib.Core.Path.{◌≡◌, refl, ap, ap₂, sym, subst, ◌∙◌}
 use mathlib.Core.Bool.{Bool, true, false, not}
 use mathlib.Core.List.{List, [], ◌∷◌, ◌++◌, map}
-use Prim.Native.Nat.{ℕ, zero, suc, ◌+◌, ◌<◌, ◌≤◌}
+use Prim.Native.Nat.{ℕ, zero, suc, ◌<◌, ◌≤◌}
 use native.Mathlib.Nat.{le_of_suc-le-suc, not-suc-le-zero}
 use native.Mathlib.Decide.{dec_lt}
 use native.Mathlib.Omega.{arith}
 use lib.Dec.{leb, eqb}
+use Rattle.std.specs.Prelude.{Result, Ok, Err, IsErr, IsErrAnd}
 use lib.ListN.{length, get_or, take, drop}
 use lib.Seq.{length-take-le}
 use borrow.Author.Tests.{ne_eqb}
 use Rattle.words.specs.Tests.{both, pick}
 use Rattle.words.proofs.Tests.{both_left, both_right}
 use Rattle.card_sizes.specs.Sizes.{line_count, image_length}
+use Rattle.command.specs.declared.Refusal.{Refusal}
+use Rattle.command.specs.Decode.{refusal_number}
 use Rattle.command.specs.Rows.{Row, unless, code_of}
+use Rattle.command.proofs.Numbers.{refused}
 use Rattle.command.proofs.Rows.{AllPassed, code-yes, code-no}
 use Rattle.machine.specs.Machine.{Line, MLine, View, Seen, no_view, Effect, refuse, put, crypt, park, resume, change, start, refuse_if, idle, idle_line, based, shown, moved, enciphered, changed, started_line, view_of, view_at, is_idle, is_open, is_loaded, line_ok, open_ok, loaded_ok, idle_ok, all_ok, image_of, back, seen, with_line, with_line_seen, with_parks_seen}
 use Rattle.machine.specs.Parks.{Parks, count_for, last_park, no_more, number_now, parked, holds, taken, parks_ok}
@@ -28,8 +32,9 @@ use Rattle.card_layout.specs.Words.{words_at, card_in, card_words, put_line, put
 use Rattle.card_line.proofs.Lines.{Plain, ok-plain, idle-plain}
 use Rattle.card_layout.proofs.Cards.{line-here, card-lines, card-long, put-seen, put-words, parks-seen, parks-words}
 use Rattle.card_layout.proofs.Several.{put-sound}
+use Rattle.card_outcome.specs.declared.Counts.{Counts}
 use Rattle.card_outcome.specs.declared.Outcome.{Outcome}
-use Rattle.card_outcome.specs.Outcomes.{refusal, acceptance, outcome_of}
+use Rattle.card_outcome.specs.Outcomes.{refusal, acceptance, outcome_for, outcome_of}
 use Rattle.card_outcome.specs.Leaves.{out_of, words_of, public_of, EffectLeaves}
 
 -- ---- the lines of a card that is as a call leaves it
@@ -106,6 +111,11 @@ put-parks ws i l q s p = ap (λ (c : Seen). c.parks) (put-seen ws i l q s.size p
 
 -- ---- what an effect gives
 
+-- a result that hands on a refusal, as `?` does
+pub handed-on : (r : Result Counts Refusal) {e : Refusal} → IsErr r × IsErrAnd r (λ x. x ≡ e) → r ≡ Err e
+handed-on (Ok x) h = absurd h.1
+handed-on (Err x) h = ap Err h.1
+
 -- what one effect leaves, an effect that is the same leaves
 pub by-rows : (ws : List ℕ) {e f : Effect} (text out : List ℕ) {r : Outcome} {ws' o : List ℕ} → e ≡ f → EffectLeaves ws text out f r ws' o → EffectLeaves ws text out e r ws' o
 by-rows ws text out {r = r} {ws' = ws'} {o = o} q h = subst (λ (x : Effect). EffectLeaves ws text out x r ws' o) (sym q) h
@@ -141,6 +151,15 @@ module _ (ws text out : List ℕ) where
           let n = h ∙ code-yes x rows y in
           given-true x.given x.number (unless refuse_if rows e) y (given-refusal x.number (λ z. f (n ∙ z)) (g ∙ ap refusal n))
       by false y rest = given-false x.given x.number (unless refuse_if rows e) y (rest (h ∙ code-no x rows y))
+
+  -- what a refusal says
+  pub given-err : (e : Refusal) → EffectLeaves ws text out (refuse (refusal_number e)) (outcome_for (Err e)) ws out
+  given-err e = given-refusal (refusal_number e) (refused e) refl
+
+  -- what a check says that its rows refuse, handed on
+  pub given-check : (rows : List Row) (f : Effect) {e : Refusal} {r : Result Counts Refusal} → refusal_number e ≡ code_of rows → r ≡ Err e →
+      EffectLeaves ws text out (unless refuse_if rows f) (outcome_for r) ws out
+  given-check rows f {e} h t = given-rows rows f h (refused e) (ap outcome_for t)
 
   -- rows of which none is given
   pub given-passed : (rows : List Row) (e : Effect) → AllPassed rows → {r : Outcome} {ws' o : List ℕ} → EffectLeaves ws text out e r ws' o →

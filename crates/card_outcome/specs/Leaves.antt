@@ -1,10 +1,9 @@
 -- What is promised of an effect, of a command and of a call on a card's words, each in the same four parts: the outcome, the card that is seen in the words, the words, and out, all whole.
 -- Assumes nothing.
-use Rattle.std.specs.Prelude.{◌≡◌, List, ◌++◌, ℕ, eqb, length, drop}
+use Rattle.std.specs.Prelude.{◌≡◌, List, ◌++◌, ℕ, eqb, length, drop, Ok}
 use Rattle.words.specs.Tests.{pick}
 use Rattle.command.specs.declared.Command.{Command}
 use Rattle.command.specs.declared.Command.TheVariants.{Crypt}
-use Rattle.command.specs.declared.Decoded.TheVariants.{Run}
 use Rattle.command.specs.Decode.{decode_of}
 use Rattle.machine.specs.Machine.{Call, Effect, Public, Shown, public, back, decided, perform, shows, card_step}
 use Rattle.card_layout.specs.Words.{card_in, card_words}
@@ -56,5 +55,5 @@ pub record Untouched (ws out : List ℕ) (r : Outcome) (ws' out' : List ℕ) : T
 
 -- an accepted crypt of n bytes on line i
 pub record Crypts (a : Call) (r : Outcome) (i n : ℕ) : Type 0 where
-  pub read : decode_of a.command ≡ Run (Crypt i n)
+  pub read : decode_of a.command ≡ Ok (Crypt i n)
   pub accepted : r.code ≡ 0

@@ -3,10 +3,20 @@
 #![tactic(auto)]
 
 ghost use Rattle.std.specs.Prelude.{◌≡◌};
-ghost use Rattle.card_outcome.specs.Outcomes.{refusal, acceptance};
+ghost use Rattle.card_outcome.specs.Outcomes.{outcome_for};
+
+use command::Refusal;
+
+// What an accepted call used of the command and of data, and wrote to out, in bytes.
+#[derive(Clone, Copy, Debug, PartialEq, Eq)]
+pub struct Counts {
+    pub used_command: usize,
+    pub used_data: usize,
+    pub written: usize,
+}
 
 // The code is 0 where the call is accepted.
-#[derive(Clone, Copy)]
+#[derive(Clone, Copy, Debug, PartialEq, Eq)]
 pub struct Outcome {
     pub code: u8,
     pub used_command: usize,
@@ -14,26 +24,24 @@ pub struct Outcome {
     pub written: usize,
 }
 
-// A refusal: three zeros.
-pub fn refused(code: u8) -> Outcome
-    ensures { result ≡ refusal code }
-{
-    Outcome {
-        code,
-        used_command: 0,
-        used_data: 0,
-        written: 0,
-    }
-}
+// The outcome of a call: of one that is refused the number of the refusal and three zeros, else 0 and the three counts.
+impl From<Result<Counts, Refusal>> for Outcome {
+    ghost from_gives = { λ r o. o ≡ outcome_for r };
 
-// An accepted call, and its three counts.
-pub fn accepted(used_command: usize, used_data: usize, written: usize) -> Outcome
-    ensures { result ≡ acceptance used_command used_data written }
-{
-    Outcome {
-        code: 0,
-        used_command,
-        used_data,
-        written,
+    fn from(r: Result<Counts, Refusal>) -> Outcome {
+        match r {
+            Ok(counts) => Outcome {
+                code: 0,
+                used_command: counts.used_command,
+                used_data: counts.used_data,
+                written: counts.written,
+            },
+            Err(refusal) => Outcome {
+                code: refusal.number(),
+                used_command: 0,
+                used_data: 0,
+                written: 0,
+            },
+        }
     }
 }

@@ -25,10 +25,8 @@ pub fn put_parked(card: &mut [u32], i: u8, n: u32)
     requires n_value { n ≡ number_now (card_in card.old).parks i }
     ensures { card.new ≡ put_parks card.old (parked (card_in card.old).parks i) }
 {
-    let count = PARKS_AT + (i as usize);
-    let held = HELD + (i as usize);
-    card[count] = n;
-    card[held] = n;
+    card[PARKS_AT + (i as usize)] = n;
+    card[HELD + (i as usize)] = n;
 }
 
 // Whether a card holds number k of line i.
@@ -36,11 +34,7 @@ pub fn is_held(card: &[u32], i: u8, k: u32) -> bool
     requires { (length card.now ≡ card_size) × (i < line_count) }
     ensures { result ≡ holds (card_in card.now).parks i k }
 {
-    if k == 0 {
-        return false;
-    }
-    let at = HELD + (i as usize);
-    card[at] == k
+    k != 0 && card[HELD + (i as usize)] == k
 }
 
 // The number of line i is taken up.
@@ -48,8 +42,7 @@ pub fn take_up(card: &mut [u32], i: u8)
     requires { (length card.old ≡ card_size) × (i < line_count) }
     ensures { card.new ≡ put_parks card.old (taken (card_in card.old).parks i) }
 {
-    let at = HELD + (i as usize);
-    card[at] = 0;
+    card[HELD + (i as usize)] = 0;
 }
 
 // Whether of no line the held number is above the line's count.
@@ -57,14 +50,12 @@ fn none_above(card: &[u32]) -> bool
     requires { length card.now ≡ card_size }
     ensures { result ≡ parks_ok (card_in card.now).parks }
 {
-    let mut i: usize = 0;
-    while i < LINES {
+    for i in 0..LINES {
         let held = card[HELD + i];
         let count = card[PARKS_AT + i];
         if held > count {
             return false;
         }
-        i += 1;
     }
     true
 }
@@ -74,9 +65,5 @@ pub fn parks_ok(card: &[u32]) -> bool
     requires { length card.now ≡ card_size }
     ensures { result ≡ parks_ok (card_in card.now).parks }
 {
-    let none = words_zero(&card[HELD..]);
-    if none {
-        return true;
-    }
-    none_above(card)
+    words_zero(&card[HELD..]) || none_above(card)
 }

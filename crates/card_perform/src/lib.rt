@@ -4,17 +4,17 @@
 
 ghost use Rattle.std.specs.Prelude.{◌≡◌};
 ghost use Rattle.command.specs.Decode.{decode_of};
-ghost use Rattle.command.specs.declared.Decoded.TheVariants.{Run};
 ghost use Rattle.card_layout.specs.Words.{Sound};
+ghost use Rattle.card_outcome.specs.Outcomes.{outcome_for};
 ghost use Rattle.card_outcome.specs.Leaves.{call_of, CommandLeaves};
 
 use card_change::run_change;
 use card_crypt::run_crypt;
 use card_load::{run_load, run_start};
 use card_open::{run_own, run_tray};
-use card_outcome::Outcome;
+use card_outcome::Counts;
 use card_park::{run_close, run_park, run_resume};
-use command::Command;
+use command::{Command, Refusal};
 
 // What a command that is read does to a card.
 pub fn perform<'a>(
@@ -24,10 +24,10 @@ pub fn perform<'a>(
     tray: &'a [u8],
     data: &[u8],
     out: &mut [u8],
-) -> Outcome
-    requires { Sound card.old × (decode_of command.now ≡ Run k) }
+) -> Result<Counts, Refusal>
+    requires { Sound card.old × (decode_of command.now ≡ Ok k) }
     ensures { CommandLeaves card.old k
-        (call_of command.now tray.now «data».now out.old) result card.new
+        (call_of command.now tray.now «data».now out.old) (outcome_for result) card.new
         out.new }
 {
     match k {

@@ -15,11 +15,7 @@ pub fn put_word(w: u32, out: &mut [u8])
     requires { 4 ≤ length out.old }
     ensures { out.new ≡ bytes_of w ++ drop 4 out.old }
 {
-    let b = words::bytes(w);
-    out[0] = b[0];
-    out[1] = b[1];
-    out[2] = b[2];
-    out[3] = b[3];
+    out[..4].copy_from_slice(&words::bytes(w));
 }
 
 // The bytes of words go to the start of out.
@@ -27,13 +23,8 @@ pub fn put_words(w: &[u32], out: &mut [u8])
     requires { 4 * length w.now ≤ length out.old }
     ensures { out.new ≡ spelt w.now ++ drop (4 * length w.now) out.old }
 {
-    let n = w.len();
-    let mut i: usize = 0;
-    while i < n {
-        let x = w[i];
-        let at = 4 * i;
-        put_word(x, &mut out[at..]);
-        i += 1;
+    for (i, x) in w.iter().enumerate() {
+        put_word(*x, &mut out[4 * i..]);
     }
 }
 
@@ -42,12 +33,9 @@ pub fn key_words(key: &[u8]) -> [u32; STATE]
     requires { (length key.now ≤ key_length) × (length key.now % 4 ≡ 0) }
     ensures { result ≡ key_words key.now }
 {
-    let n = key.len() / 4;
     let mut w = [0u32; STATE];
-    let mut i: usize = 0;
-    while i < n {
+    for i in 0..key.len() / 4 {
         w[i] = words::word_at(key, 4 * i);
-        i += 1;
     }
     w
 }

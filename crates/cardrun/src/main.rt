@@ -3,10 +3,11 @@
 // empty. Where a file cannot be read, or out.bin or use.bin cannot be written, it says so on standard error and prints no table.
 #![tactic(auto)]
 
+use files::Said;
 use session::{OUT, READ, RECORDS, TABLE};
 
 // Runs the commands, writes out.bin, appends to use.bin and prints the table.
-fn run<'a>(rt: HostRuntime, commands: &'a [u8], tray: &'a [u8], data: &[u8]) {
+fn run<'a>(rt: HostRuntime, commands: &'a [u8], tray: &'a [u8], data: &[u8]) -> Result<(), Said> {
     let mut out = [0u8; OUT];
     let mut table = [0u8; TABLE];
     let mut records = [0u8; RECORDS];
@@ -14,35 +15,23 @@ fn run<'a>(rt: HostRuntime, commands: &'a [u8], tray: &'a [u8], data: &[u8]) {
     let written = ended.written;
     let printed = ended.printed;
     let recorded = ended.recorded;
-    if !files::save(rt, b"out.bin", b"cardrun: out.bin", &out[..written]) {
-        return;
-    }
-    if !files::append(rt, b"use.bin", b"cardrun: use.bin", &records[..recorded]) {
-        return;
-    }
-    if let Err(e) = rt.write_all(&table[..printed]) {
-        let _ = eprintln!(rt; "cardrun: standard output: {e}");
-    }
+    files::save(rt, b"out.bin", b"cardrun: out.bin", &out[..written])?;
+    files::append(rt, b"use.bin", b"cardrun: use.bin", &records[..recorded])?;
+    files::print(rt, b"cardrun: standard output", &table[..printed]);
+    Ok(())
 }
 
-fn main(rt: HostRuntime) {
+// Reads the three files and runs what they say.
+fn go(rt: HostRuntime) -> Result<(), Said> {
     let mut commands = [0u8; READ];
     let mut tray = [0u8; READ];
     let mut data = [0u8; READ];
-    let c = files::read(rt, b"cmd.bin", b"cardrun: cmd.bin", &mut commands);
-    if c < 0 {
-        return;
-    }
-    let t = files::read(rt, b"tray.bin", b"cardrun: tray.bin", &mut tray);
-    if t < 0 {
-        return;
-    }
-    let d = files::read(rt, b"data.bin", b"cardrun: data.bin", &mut data);
-    if d < 0 {
-        return;
-    }
-    let c = c as usize;
-    let t = t as usize;
-    let d = d as usize;
-    run(rt, &commands[..c], &tray[..t], &data[..d]);
+    let c = files::read(rt, b"cmd.bin", b"cardrun: cmd.bin", &mut commands)?;
+    let t = files::read(rt, b"tray.bin", b"cardrun: tray.bin", &mut tray)?;
+    let d = files::read(rt, b"data.bin", b"cardrun: data.bin", &mut data)?;
+    run(rt, &commands[..c], &tray[..t], &data[..d])
+}
+
+fn main(rt: HostRuntime) {
+    let _ = go(rt);
 }

@@ -9,10 +9,10 @@ use lib.Dec.{T, eqb, leb, leb→le}
 use borrow.Author.Tests.{ne_eqb}
 use Rattle.words.specs.Tests.{both, pick}
 use Rattle.words.proofs.Table.{both_left, both_right}
-use Rattle.command.specs.Rows.{Row, unless, code_of, last_number, either}
+use Rattle.command.specs.Rows.{RowOf, Row, unless, code_of, last_number, either}
 
 -- no row is given
-abbrev pub AllPassed : List Row → Type 0
+abbrev pub AllPassed : {R : Type 0} → List (RowOf R) → Type 0
 AllPassed [] = Unit {0}
 AllPassed (r ∷ rs) = (r.given ≡ false) × AllPassed rs
 
@@ -30,13 +30,13 @@ none-given k [] p = refl
 none-given k (r ∷ rs) p = choose (eqb r.number k) p.0 (none-given k rs p.1)
 
 -- a test that each number passes
-abbrev pub every_number : (ℕ → Bool) → List Row → Bool
+abbrev pub every_number : {R : Type 0} → (R → Bool) → List (RowOf R) → Bool
 every_number t [] = true
 every_number t (r ∷ rs) = both (t r.number) (every_number t rs)
 
-module _ {A : Type 0} (P : A → Type 0) (refuse_if : Bool → ℕ → A → A) (t : ℕ → Bool)
-    (row : (b : Bool) (k : ℕ) (e : A) → T (t k) → (b ≡ false → P e) → P (refuse_if b k e)) where
-  pub by_rows : (rs : List Row) (e : A) → T (every_number t rs) → (AllPassed rs → P e) → P (unless refuse_if rs e)
+module _ {R A : Type 0} (P : A → Type 0) (refuse_if : Bool → R → A → A) (t : R → Bool)
+    (row : (b : Bool) (k : R) (e : A) → T (t k) → (b ≡ false → P e) → P (refuse_if b k e)) where
+  pub by_rows : (rs : List (RowOf R)) (e : A) → T (every_number t rs) → (AllPassed rs → P e) → P (unless refuse_if rs e)
   by_rows [] e n h = h tt
   by_rows (r ∷ rs) e n h =
       row r.given r.number _ (both_left (t r.number) (every_number t rs) n)

@@ -1,19 +1,22 @@
--- Refusals as rows, in their order: a number, and whether it is given. The first row that is given refuses.
+-- Refusals as rows, in their order: a number, or the refusal that has it, and whether it is given. The first row that is given refuses.
 -- Assumes nothing.
 use Rattle.std.specs.Prelude.{Bool, true, false, List, [], ◌∷◌, ℕ, ◌%◌, leb, eqb}
 use Rattle.words.specs.Tests.{both, pick}
 use Rattle.card_sizes.specs.Sizes.{key_length, full_tray}
 
-pub record Row : Type 0 where
-  pub number : ℕ
+pub record RowOf (R : Type 0) : Type 0 where
+  pub number : R
   pub given : Bool
 
+abbrev pub Row : Type 0
+Row = RowOf ℕ
+
 infix 60 ◌when◌
-abbrev pub ◌when◌ : ℕ → Bool → Row
+abbrev pub ◌when◌ : {R : Type 0} → R → Bool → RowOf R
 k when b = record { number = k; given = b }
 
 -- what is left where no row is given; `refuse_if` is what one row makes of what comes after it
-abbrev pub unless : {A : Type 0} → (Bool → ℕ → A → A) → List Row → A → A
+abbrev pub unless : {R A : Type 0} → (Bool → R → A → A) → List (RowOf R) → A → A
 unless refuse_if [] e = e
 unless refuse_if (r ∷ rs) e = refuse_if r.given r.number (unless refuse_if rs e)
 

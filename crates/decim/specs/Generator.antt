@@ -4,5 +4,5 @@ use Rattle.keystream.specs.Stream.{Gen}
 use Rattle.decim.specs.declared.Decim.{Decim}
 use Rattle.decim.specs.Cipher.{next, unit as unit_of}
 
-unfoldable pub gen : Gen Decim
+abbrev pub gen : Gen Decim
 gen = record { unit = 1; next = next; strm = unit_of }

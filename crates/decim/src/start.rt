@@ -1,13 +1,12 @@
 // The start of Decim v2 from key and IV (ISO/IEC 18033-4, 8.4.3): the register of key and IV, its turns in LFSR mode, and the rounds that fill the buffer.
-// The caller must ensure the lengths of key and IV, ten bytes and eight, and passes by reference the table that `decim_tables` makes.
+// The caller must ensure the lengths of key and IV, ten bytes and eight.
 ghost use Rattle.std.specs.Prelude.{◌≡◌, ◌+◌, ◌*◌, ◌/◌, ◌<◌, length};
 ghost use Rattle.words.specs.Lists.{iter};
-ghost use Rattle.decim_tables.specs.Tables.{absg_list};
 ghost use Rattle.decim_register.specs.Register.{joined_down, init_next_lfsr};
 ghost use Rattle.decim.specs.Cipher.{init_next, string_bit, loaded_bit, loaded, buffer_filled, init as init_of};
 
 use crate::Decim;
-use decim_buffer::{Buffer, feed};
+use decim_buffer::Buffer;
 use decim_register::{f_word, feed_word, four, mix};
 
 // Bit j of a string, the lowest bit of its last byte first.
@@ -47,10 +46,8 @@ fn load_word(key: &[u8], iv: &[u8], i: usize) -> u32
     ensures { result ≡ joined_down 32 (λ j. loaded_bit key.now iv.now (32 * i + j)) }
 {
     let mut w: u32 = 0;
-    let mut j: usize = 0;
-    while j < 32 {
+    for j in 0..32 {
         w = w * 2 + load_bit(key, iv, 32 * i + j);
-        j += 1;
     }
     w
 }
@@ -82,18 +79,15 @@ fn mixed_in(a: [u32; 6]) -> [u32; 6]
     ensures { result ≡ iter 192 init_next_lfsr a }
 {
     let mut w = a;
-    let mut i: usize = 0;
-    while i < 192 {
+    for _ in 0..192usize {
         let next = init_lfsr(w);
         w = next;
-        i += 1;
     }
     w
 }
 
 // InitNext in BUFF mode: four turns, which feed the buffer.
-pub fn init_buff(st: Decim, t: &[u8; 128]) -> Decim
-    requires { t.now ≡ absg_list }
+pub fn init_buff(st: Decim) -> Decim
     ensures { result ≡ init_next st }
 {
     let a = st.a;
@@ -102,30 +96,29 @@ pub fn init_buff(st: Decim, t: &[u8; 128]) -> Decim
     let b = four(a, r);
     Decim {
         a: b,
-        buffer: feed(st.buffer, f, 0, t),
+        buffer: st.buffer.feed(f, 0),
     }
 }
 
 // The state with its buffer filled, after at most 1,024 rounds.
-fn filled(st: Decim, t: &[u8; 128]) -> Decim
-    requires { t.now ≡ absg_list }
+fn filled(st: Decim) -> Decim
     ensures { result ≡ buffer_filled 1024 st }
 {
     let mut s = st;
-    let mut n: usize = 0;
-    while n < 1024 && s.buffer.fill < 32 {
-        s = init_buff(s, t);
-        n += 1;
+    for _ in 0..1024usize {
+        if 32 <= s.buffer.fill {
+            return s;
+        }
+        s = init_buff(s);
     }
     s
 }
 
 impl Decim {
     // S(0) of key and IV.
-    pub fn init(key: &[u8], iv: &[u8], t: &[u8; 128]) -> Decim
+    pub fn init(key: &[u8], iv: &[u8]) -> Decim
         requires key_len { length key.now ≡ 10 }
         requires iv_len { length iv.now ≡ 8 }
-        requires t_value { t.now ≡ absg_list }
         ensures { result ≡ init_of key.now iv.now }
     {
         let a = mixed_in(load(key, iv));
@@ -135,6 +128,6 @@ impl Decim {
             fill: 0,
         };
         let s = Decim { a, buffer };
-        filled(s, t)
+        filled(s)
     }
 }

@@ -44,9 +44,6 @@ module _ (b i c : ℕ) (hb : b < 2 ^ 32) (hi : i < 32) (hc : c < 2) where
   set_below = joined-below 32 _ (λ j h. either (eqb j i) c (bit_in b j) hc (mod-lt (b / 2 ^ (31 - j)) (lit< tt)))
 
   -- the difference and the sum of the code, whose shifts lose nothing
-  pub set-less : b / 2 ^ (31 - i) % 2 * 2 ^ (31 - i) % 2 ^ 32 ≤ b
-  set-less = let e = old-exact in let m = old-most in omega arith
-
   pub set_is : b - b / 2 ^ (31 - i) % 2 * 2 ^ (31 - i) % 2 ^ 32 + c * 2 ^ (31 - i) % 2 ^ 32 ≡ set_bit b i c
   set_is = let e = exchanged in let m = old-most in let o = old-exact in let n = new-exact in omega arith
 
@@ -73,6 +70,15 @@ module _ (t b i c : ℕ) (o : Bool) where
   pub buffered-not : o ≡ false → record { t = t; b = b; fill = i } ≡ buffered t b i o c
   unfolding buffered
   buffered-not k = sym (ap (λ (p : Bool). pick (both p (ltb i 32)) (with_bit (set_bit b i c)) (record { t = t; b = b; fill = i })) k)
+
+-- B leaves T as it is
+kept : (p : Bool) (x y : Buffer) → x.t ≡ y.t → (pick p x y).t ≡ y.t
+kept true x y e = e
+kept false x y e = refl
+
+pub buffered-t : (t b i : ℕ) (o : Bool) (c : ℕ) → (buffered t b i o c).t ≡ t
+unfolding buffered
+buffered-t t b i o c = kept (both o (ltb i 32)) _ _ refl
 
 -- ---- one turn more
 

@@ -2,7 +2,7 @@
 -- Assumes nothing.
 use mathlib.Core.Path.{◌≡◌, refl, ap, ap₂, sym, subst, ◌∙◌}
 use mathlib.Core.Bool.{Bool, true, false}
-use Prim.Native.Nat.{ℕ, zero, suc, ◌+◌, ◌*◌, ◌/◌, ◌%◌, ◌-◌, ◌^◌, ◌<◌, ◌≤◌}
+use Prim.Native.Nat.{ℕ, suc, ◌+◌, ◌*◌, ◌/◌, ◌%◌, ◌-◌, ◌^◌, ◌<◌, ◌≤◌}
 use native.Mathlib.Nat.{mod-lt, add_comm, mod-eq_of_lt, lt_of_le_of_lt, div-mul-le_self}
 use native.Mathlib.Numerals.{add-one}
 use native.Mathlib.Omega.{arith}
@@ -64,9 +64,6 @@ drawn-more b i h =
 module _ (b p : ℕ) (h : b < 2 ^ 32) (k : p < 32) where
   back : (x : ℕ) → x < 2 ^ 32 → x / 2 ^ p * 2 ^ p % 2 ^ 32 ≡ x / 2 ^ p * 2 ^ p
   back x q = mod-eq_of_lt (lt_of_le_of_lt (div-mul-le_self x (2 ^ p)) q)
-
-  pub above-less : b / 2 ^ p * 2 ^ p % 2 ^ 32 ≤ b
-  above-less = let e = back b h in let m = div-mul-le_self b (2 ^ p) in omega arith
 
   pub above-is : b * 2 % 2 ^ 32 / 2 ^ p * 2 ^ p % 2 ^ 32 + (b - b / 2 ^ p * 2 ^ p % 2 ^ 32) ≡ b * 2 % 2 ^ 32 / 2 ^ p * 2 ^ p + b % 2 ^ p
   above-is =

@@ -1,6 +1,6 @@
 -- Sums of bits, one for each place of a word, counted modulo 4 by exclusive ors and ands: what LF gives in 32 turns is the two digits of such sums together.
 -- Assumes nothing.
-use mathlib.Core.Path.{◌≡◌, refl, ap, ap₂, sym, subst, ◌∙◌}
+use mathlib.Core.Path.{◌≡◌, refl, ap, sym, subst, ◌∙◌}
 use mathlib.Core.List.{List, [], ◌∷◌, map}
 use Prim.Native.Nat.{ℕ, zero, suc, ◌+◌, ◌/◌, ◌%◌, ◌<◌}
 use native.Mathlib.Nat.{mod-lt, add-zero, zero-add, add_comm, add_assoc}

@@ -15,7 +15,7 @@ use Rattle.words.specs.Word.{◌⊕◌}
 use Rattle.words.specs.Lists.{All, Word, iter}
 use Rattle.words.proofs.Ranges.{at-word}
 use Rattle.words.proofs.Registers.{cons, listed}
-use Rattle.decim_register.specs.Register.{◌!◌, l, clocked}
+use Rattle.decim_register.specs.Register.{◌!◌, clocked}
 use Rattle.decim_register.specs.Range.{RegisterIn}
 use Rattle.decim_register.specs.Wide.{window, fed_word, lf_word, f_word, on, spliced, known_low, known_high, solution, counted, lf_taps}
 use Rattle.decim_register.proofs.Bits.{joined-agree, joined-below}

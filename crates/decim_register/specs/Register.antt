@@ -1,6 +1,6 @@
 -- The register of Decim v2 (document 000, 8.4.7 to 8.4.9, and what 8.4.4 and 8.4.5 do with it): its 192 bits in six words, whose top bit has the lowest number.
 -- Assumes nothing.
-use Rattle.std.specs.Prelude.{Bool, List, [], ◌∷◌, map, ℕ, zero, suc, ◌+◌, ◌*◌, ◌/◌, ◌%◌, ◌-◌, ltb, get_or}
+use Rattle.std.specs.Prelude.{List, [], ◌∷◌, map, ℕ, zero, suc, ◌+◌, ◌*◌, ◌/◌, ◌%◌, ◌-◌, ltb, get_or}
 use Rattle.words.specs.Word.{◌⊕◌, bit}
 use Rattle.words.specs.Lists.{tab, iter}
 use Rattle.words.specs.Tests.{pick}

@@ -64,45 +64,47 @@ pub fn moved(a: [u32; 6], r: u32) -> [u32; 6]
     [a[1], a[2], a[3], a[4], a[5], r]
 }
 
-// A word of bits more.
-fn add(s: Sum, w: u32) -> Sum
-    ensures { result ≡ added s w }
-{
-    Sum {
-        low: s.low ^ w,
-        high: s.high ^ (s.low & w),
+impl Sum {
+    // A word of bits more.
+    fn add(self, w: u32) -> Sum
+        ensures { result ≡ added self w }
+    {
+        Sum {
+            low: self.low ^ w,
+            high: self.high ^ (self.low & w),
+        }
     }
-}
 
-// The bits of LF from the first three words.
-fn count_low(s: Sum, x: u32, y: u32, z: u32) -> Sum
-    ensures { result ≡ counted s (spliced x y 13 ∷ spliced x y 28 ∷ spliced y z 13 ∷ spliced y z 22 ∷ []) }
-{
-    let s1 = add(s, splice(x, y, 13));
-    let s2 = add(s1, splice(x, y, 28));
-    let s3 = add(s2, splice(y, z, 13));
-    add(s3, splice(y, z, 22))
-}
+    // The bits of LF from the first three words.
+    fn count_low(self, x: u32, y: u32, z: u32) -> Sum
+        ensures { result ≡ counted self (spliced x y 13 ∷ spliced x y 28 ∷ spliced y z 13 ∷ spliced y z 22 ∷ []) }
+    {
+        self.add(splice(x, y, 13))
+            .add(splice(x, y, 28))
+            .add(splice(y, z, 13))
+            .add(splice(y, z, 22))
+    }
 
-// Those from the third word to the sixth.
-fn count_middle(s: Sum, x: u32, y: u32, z: u32, w: u32) -> Sum
-    ensures { result ≡ counted s (spliced x y 1 ∷ spliced y z 8 ∷ spliced y z 15 ∷ spliced z w 16 ∷ []) }
-{
-    let s1 = add(s, splice(x, y, 1));
-    let s2 = add(s1, splice(y, z, 8));
-    let s3 = add(s2, splice(y, z, 15));
-    add(s3, splice(z, w, 16))
-}
+    // Those from the third word to the sixth.
+    fn count_middle(self, x: u32, y: u32, z: u32, w: u32) -> Sum
+        ensures { result ≡ counted self (spliced x y 1 ∷ spliced y z 8 ∷ spliced y z 15 ∷ spliced z w 16 ∷ []) }
+    {
+        self.add(splice(x, y, 1))
+            .add(splice(y, z, 8))
+            .add(splice(y, z, 15))
+            .add(splice(z, w, 16))
+    }
 
-// Those from the sixth word and what is fed.
-fn count_high(s: Sum, x: u32, y: u32) -> Sum
-    ensures { result ≡ counted s (spliced x y 2 ∷ spliced x y 12 ∷ spliced x y 18 ∷ spliced x y 26 ∷ spliced x y 31 ∷ []) }
-{
-    let s1 = add(s, splice(x, y, 2));
-    let s2 = add(s1, splice(x, y, 12));
-    let s3 = add(s2, splice(x, y, 18));
-    let s4 = add(s3, splice(x, y, 26));
-    add(s4, splice(x, y, 31))
+    // Those from the sixth word and what is fed.
+    fn count_high(self, x: u32, y: u32) -> Sum
+        ensures { result ≡ counted self (spliced x y 2 ∷ spliced x y 12 ∷ spliced x y 18 ∷ spliced x y 26 ∷ spliced x y 31 ∷ []) }
+    {
+        self.add(splice(x, y, 2))
+            .add(splice(x, y, 12))
+            .add(splice(x, y, 18))
+            .add(splice(x, y, 26))
+            .add(splice(x, y, 31))
+    }
 }
 
 // LF of 8.4.8 in 32 turns, in which the register feeds r.
@@ -111,9 +113,10 @@ fn filter_word(a: [u32; 6], r: u32) -> u32
     ensures { result ≡ lf_word a }
 {
     let none = Sum { low: 0, high: 0 };
-    let s1 = count_low(none, a[0], a[1], a[2]);
-    let s2 = count_middle(s1, a[2], a[3], a[4], a[5]);
-    let s = count_high(s2, a[5], r);
+    let s = none
+        .count_low(a[0], a[1], a[2])
+        .count_middle(a[2], a[3], a[4], a[5])
+        .count_high(a[5], r);
     s.low ^ s.high
 }
 
@@ -145,13 +148,6 @@ pub fn four(a: [u32; 6], r: u32) -> [u32; 6]
     ]
 }
 
-// A word moved up by one bit, with the top bit of the word after it.
-fn up(x: u32, y: u32) -> u32
-    ensures { result ≡ x * 2 % 2 ^ 32 + y / 2 ^ 31 % 2 }
-{
-    (x << 1) + (y >> 31)
-}
-
 // The register moved by one bit, with r as its last.
 fn move_in(a: [u32; 6], r: u32) -> [u32; 6]
     requires { r < 2 }
@@ -163,11 +159,11 @@ fn move_in(a: [u32; 6], r: u32) -> [u32; 6]
     let e = a[4];
     let last = a[5];
     [
-        up(a[0], b),
-        up(b, c),
-        up(c, d),
-        up(d, e),
-        up(e, last),
+        splice(a[0], b, 1),
+        splice(b, c, 1),
+        splice(c, d, 1),
+        splice(d, e, 1),
+        splice(e, last, 1),
         (last << 1) + r,
     ]
 }

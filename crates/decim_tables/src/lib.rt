@@ -1,11 +1,10 @@
-// The table of Decim v2: ABSG over four bits. An index into a constant builds the constant anew, so whoever runs many steps makes the table once and passes it by
-// reference.
+// The table of Decim v2: ABSG over four bits.
 #![tactic(auto)]
 
 ghost use Rattle.std.specs.Prelude.{◌≡◌};
 ghost use Rattle.decim_tables.specs.Tables.{absg_list};
 
-const ABSG: [u8; 128] = [
+static ABSG: [u8; 128] = [
     0x10, 0x0d, 0x0f, 0x52, 0x2c, 0x2e, 0x28, 0x05, 0x07, 0x0a, 0x0c, 0x0e, 0x30, 0x2d, 0x2f, 0x72,
     0x10, 0x0d, 0x0f, 0x52, 0x2c, 0x2e, 0x28, 0x05, 0x07, 0x0a, 0x0c, 0x0e, 0x30, 0x2d, 0x2f, 0x72,
     0x10, 0x0d, 0x0f, 0x52, 0x2c, 0x2e, 0x28, 0x05, 0x07, 0x0a, 0x0c, 0x0e, 0x30, 0x2d, 0x2f, 0x72,
@@ -17,8 +16,8 @@ const ABSG: [u8; 128] = [
 ];
 
 // ABSG over four bits at once.
-pub fn absg() -> [u8; 128]
-    ensures { result ≡ absg_list }
+pub fn absg() -> &'static [u8; 128]
+    ensures { result.now ≡ absg_list }
 {
-    ABSG
+    &ABSG
 }

@@ -2,9 +2,6 @@
 // states from time 0 on, which the annex prints for each bit, those of whole bytes are printed.
 #![tactic(auto)]
 
-ghost use Rattle.std.specs.Prelude.{◌≡◌};
-ghost use Rattle.decim_tables.specs.Tables.{absg_list};
-
 use decim::Decim;
 use decim::start::{init_buff, init_lfsr};
 use decim_buffer::Buffer;
@@ -14,59 +11,41 @@ use vectors_text::{
 };
 
 // The first 24 bytes of the keystream, the first byte last.
-fn bytes(st: Decim, t: &[u8; 128]) -> [u8; 24]
-    requires { t.now ≡ absg_list }
-{
+fn bytes(st: Decim) -> [u8; 24] {
     let mut z = [0u8; 24];
     let mut s = st;
-    let mut left: usize = 24;
-    while left > 0 {
-        left -= 1;
-        z[left] = s.output(t);
-        s = s.step(t);
+    for i in (0..24).rev() {
+        z[i] = s.output();
+        s = s.step();
     }
     z
 }
 
 fn show(stdout: Stdout, z: [u8; 24]) {
-    let mut i: usize = 0;
-    while i < 6 {
+    for i in 0..6 {
         word(stdout, words::word_at(&z, 4 * i));
-        i += 1;
     }
     end(stdout);
 }
 
-fn stream(stdout: Stdout, k: &[u8], v: &[u8], t: &[u8; 128])
-    requires { t.now ≡ absg_list }
-{
+fn stream(stdout: Stdout, k: &[u8], v: &[u8]) {
     inputs(stdout, k, v);
     let mut key = [0u8; 10];
     let mut iv = [0u8; 8];
     unhex(k, &mut key);
     unhex(v, &mut iv);
-    show(stdout, bytes(Decim::init(&key, &iv, t), t));
+    show(stdout, bytes(Decim::init(&key, &iv)));
 }
 
-// A word with its last bit first.
-fn turned(w: u32) -> u32 {
-    let mut r: u32 = 0;
-    let mut i: u32 = 0;
-    while i < 32 {
-        r = (r << 1) ^ ((w >> i) % 2);
-        i += 1;
-    }
-    r
-}
-
+// The register, each word with its last bit first.
 fn register(stdout: Stdout, a: [u32; 6]) {
     let s = [
-        turned(a[5]),
-        turned(a[4]),
-        turned(a[3]),
-        turned(a[2]),
-        turned(a[1]),
-        turned(a[0]),
+        a[5].reverse_bits(),
+        a[4].reverse_bits(),
+        a[3].reverse_bits(),
+        a[2].reverse_bits(),
+        a[1].reverse_bits(),
+        a[0].reverse_bits(),
     ];
     cells(stdout, b" a", &s);
 }
@@ -90,7 +69,7 @@ fn state_at(stdout: Stdout, i: usize, s: Decim) {
     bit(stdout, h.t / 2);
     bit(stdout, h.t);
     put(stdout, b" b");
-    cell(stdout, turned(h.b));
+    cell(stdout, h.b.reverse_bits());
     listing(stdout, b" I ", h.fill as usize);
 }
 
@@ -99,11 +78,9 @@ fn mix(stdout: Stdout, first: [u32; 6]) -> [u32; 6] {
     let mut a = first;
     time(stdout, 0, 256);
     register(stdout, a);
-    let mut i: usize = 0;
-    while i < 192 {
+    for i in 1..193 {
         let next = init_lfsr(a);
         a = next;
-        i += 1;
         time(stdout, i, 256);
         register(stdout, a);
     }
@@ -111,36 +88,29 @@ fn mix(stdout: Stdout, first: [u32; 6]) -> [u32; 6] {
 }
 
 // The states of BUFF mode after the first, and the last of them.
-fn fill(stdout: Stdout, first: Decim, t: &[u8; 128]) -> Decim
-    requires { t.now ≡ absg_list }
-{
+fn fill(stdout: Stdout, first: Decim) -> Decim {
     let mut s = first;
-    let mut n: usize = 0;
-    while n < 64 && s.buffer.fill < 32 {
-        s = init_buff(s, t);
-        n += 1;
-        state_at(stdout, 192 + n, s);
+    for i in 193..257 {
+        if 32 <= s.buffer.fill {
+            return s;
+        }
+        s = init_buff(s);
+        state_at(stdout, i, s);
     }
     s
 }
 
 // S(0) to S(24).
-fn run(stdout: Stdout, first: Decim, t: &[u8; 128])
-    requires { t.now ≡ absg_list }
-{
+fn run(stdout: Stdout, first: Decim) {
     let mut s = first;
     state_at(stdout, 256, s);
-    let mut n: usize = 0;
-    while n < 24 {
-        s = s.step(t);
-        n += 1;
+    for n in 1..25 {
+        s = s.step();
         state_at(stdout, 256 + 8 * n, s);
     }
 }
 
-fn states(stdout: Stdout, t: &[u8; 128])
-    requires { t.now ≡ absg_list }
-{
+fn states(stdout: Stdout) {
     let mut key = [0u8; 10];
     let iv = [0u8; 8];
     unhex(b"00000000000000000080", &mut key);
@@ -151,41 +121,36 @@ fn states(stdout: Stdout, t: &[u8; 128])
         fill: 0,
     };
     let s = Decim { a, buffer };
-    run(stdout, fill(stdout, s, t), t);
+    run(stdout, fill(stdout, s));
 }
 
-fn first_streams(stdout: Stdout, t: &[u8; 128])
-    requires { t.now ≡ absg_list }
-{
+fn first_streams(stdout: Stdout) {
     heading(stdout, b"C.5.2");
-    stream(stdout, b"00000000000000000080", b"0000000000000000", t);
+    stream(stdout, b"00000000000000000080", b"0000000000000000");
     heading(stdout, b"C.5.2");
-    stream(stdout, b"00000000000000000000", b"0000000000000080", t);
+    stream(stdout, b"00000000000000000000", b"0000000000000080");
     heading(stdout, b"C.5.2");
-    stream(stdout, b"09090909090909090909", b"0000000000000000", t);
+    stream(stdout, b"09090909090909090909", b"0000000000000000");
 }
 
-fn last_streams(stdout: Stdout, t: &[u8; 128])
-    requires { t.now ≡ absg_list }
-{
+fn last_streams(stdout: Stdout) {
     heading(stdout, b"C.5.2");
-    stream(stdout, b"09080706050403020100", b"0000000000000000", t);
+    stream(stdout, b"09080706050403020100", b"0000000000000000");
     heading(stdout, b"C.5.2");
-    stream(stdout, b"eb9845f29f4cf9a65300", b"de7710a942db740d", t);
+    stream(stdout, b"eb9845f29f4cf9a65300", b"de7710a942db740d");
     heading(stdout, b"C.5.2");
-    stream(stdout, b"faa75401ae5b08b5620f", b"f9922bc45df68f28", t);
+    stream(stdout, b"faa75401ae5b08b5620f", b"f9922bc45df68f28");
 }
 
 // C.5.
 pub fn print(stdout: Stdout) {
-    let t = decim_tables::absg();
     line(stdout, b"Decim v2");
-    first_streams(stdout, &t);
-    last_streams(stdout, &t);
+    first_streams(stdout);
+    last_streams(stdout);
     heading(stdout, b"C.5.3");
     remark(
         stdout,
         b"the scan prints the registers to time -235 short of a byte or two, and before time 0 T from T2 to T0",
     );
-    states(stdout, &t);
+    states(stdout);
 }

@@ -4,11 +4,14 @@ use mathlib.Core.Path.{◌≡◌, sym, subst}
 use mathlib.Core.List.{List}
 use mathlib.Core.Bool.{true}
 use Prim.Native.Nat.{ℕ, ◌≤◌, ◌<◌}
-use lib.ListN.{length}
+use lib.ListN.{length, get_or}
+use Rattle.words.specs.Lists.{Byte}
+use Rattle.words.proofs.Ranges.{all_known}
 use Rattle.command.specs.declared.Cipher.{Cipher}
 use Rattle.command.specs.Decode.{number_of}
 use Rattle.ciphers.specs.States.{state_words}
-use Rattle.ciphers.specs.Table.{cipher_at}
+use Rattle.ciphers.specs.Table.{Interface, cipher_at}
+use Rattle.ciphers.proofs.Sound.{Laws}
 use Rattle.ciphers.proofs.Along.{Gives}
 
 -- what a crypt asks of its caller
@@ -28,3 +31,7 @@ asked n m e h = subst (λ (x : Cipher). (n ≡ (cipher_at (number_of x)).key) ×
 
 pub given : {c d : Cipher} {w : List ℕ} (key iv : List ℕ) → c ≡ d → w ≡ (cipher_at (number_of d)).init key iv → w ≡ (cipher_at (number_of c)).init key iv
 given {w = w} key iv e h = subst (λ (x : Cipher). w ≡ (cipher_at (number_of x)).init key iv) (sym e) h
+
+-- S(0) of a key and an IV is in the range of the cipher's states
+pub in_range : {S : Type 0} {i : Interface S} {P : S → Type 0} → Laws i P → {s : S} {key iv : List ℕ} → s ≡ i.init key iv → ((k : ℕ) → Byte (get_or key k 0)) → ((k : ℕ) → Byte (get_or iv k 0)) → P s
+in_range {P = P} l {key = key} {iv} e h q = subst P (sym e) (l.init-range key iv (all_known Byte key h) (all_known Byte iv q))

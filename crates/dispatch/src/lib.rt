@@ -10,8 +10,14 @@ ghost use Rattle.ciphers.specs.Table.{cipher_at};
 ghost use Rattle.command.specs.Decode.{number_of};
 
 use card_sizes::STATE;
+use cipher_words::{Stored, xor_text};
 use ciphers::iv_of;
 use command::Cipher;
+use kcipher2::Kcipher2;
+use mugi::Mugi;
+use rabbit::Rabbit;
+use snow2::Snow2;
+use zuc::Zuc;
 
 // S(0) of key and IV.
 fn open(c: Cipher, key: &[u8], iv: &[u8]) -> [u32; STATE]
@@ -20,12 +26,12 @@ fn open(c: Cipher, key: &[u8], iv: &[u8]) -> [u32; STATE]
     ensures { result ≡ (cipher_at (number_of c)).init key.now iv.now }
 {
     match c {
-        Cipher::Zuc => zuc_words::open(key, iv),
-        Cipher::Rabbit => rabbit_words::open(key, iv),
-        Cipher::Snow128 => snow2_words::open128(key, iv),
-        Cipher::Snow256 => snow2_words::open256(key, iv),
-        Cipher::Kcipher2 => kcipher2_words::open(key, iv),
-        Cipher::Mugi => mugi_words::open(key, iv),
+        Cipher::Zuc => Zuc::init(key, iv).words(),
+        Cipher::Rabbit => Rabbit::init(key, iv).words(),
+        Cipher::Snow128 => Snow2::init128(key, iv).words(),
+        Cipher::Snow256 => Snow2::init256(key, iv).words(),
+        Cipher::Kcipher2 => Kcipher2::init(key, iv).words(),
+        Cipher::Mugi => Mugi::init(key, iv).words(),
     }
 }
 
@@ -48,11 +54,11 @@ pub fn crypt(c: Cipher, w: &mut [u32], skip: usize, text: &[u8], out: &mut [u8])
         w.new out.new }
 {
     match c {
-        Cipher::Zuc => zuc_words::xor_text(w, skip, text, out),
-        Cipher::Rabbit => rabbit_words::xor_text(w, skip, text, out),
-        Cipher::Snow128 => snow2_words::xor_text(w, skip, text, out),
-        Cipher::Snow256 => snow2_words::xor_text(w, skip, text, out),
-        Cipher::Kcipher2 => kcipher2_words::xor_text(w, skip, text, out),
-        Cipher::Mugi => mugi_words::xor_text(w, skip, text, out),
+        Cipher::Zuc => xor_text::<Zuc>(w, skip, text, out),
+        Cipher::Rabbit => xor_text::<Rabbit>(w, skip, text, out),
+        Cipher::Snow128 => xor_text::<Snow2>(w, skip, text, out),
+        Cipher::Snow256 => xor_text::<Snow2>(w, skip, text, out),
+        Cipher::Kcipher2 => xor_text::<Kcipher2>(w, skip, text, out),
+        Cipher::Mugi => xor_text::<Mugi>(w, skip, text, out),
     }
 }

@@ -1,5 +1,4 @@
-// Products in GF(2^32) and the function T of AES's parts, by borrowed tables.
-// The caller must ensure what a `requires` names: the borrowed table is the one that this crate makes.
+// Products in GF(2^32), by a borrowed table, and the function T of AES's parts, by the table of this crate.
 #![tactic(auto)]
 
 pub mod tables;
@@ -7,7 +6,6 @@ pub mod tables;
 ghost use Rattle.std.specs.Prelude.{◌≡◌};
 ghost use Rattle.field.specs.Gf32.{AlphaTimes};
 ghost use Rattle.field.specs.Aes.{fn_t};
-ghost use Rattle.field.specs.Tables.{column_list};
 
 // α w, in every field whose products with y^4 the table holds.
 pub fn times_alpha(t: &[u32; 256], w: u32) -> u32
@@ -17,13 +15,14 @@ pub fn times_alpha(t: &[u32; 256], w: u32) -> u32
 }
 
 // T: a byte in a higher place gives what it gives in the lowest, rotated.
-pub fn sub_word(t: &[u32; 256], w: u32) -> u32
-    requires { t.now ≡ column_list }
+pub fn sub_word(w: u32) -> u32
     ensures { result ≡ fn_t w }
 {
-    let x0 = t[(w % 256) as usize];
-    let x1 = words::rotl8(t[(w / 256 % 256) as usize]);
-    let x2 = words::rotl16(t[(w / 65536 % 256) as usize]);
-    let x3 = words::rotl24(t[(w / 16777216 % 256) as usize]);
+    let [b3, b2, b1, b0] = w.to_be_bytes();
+    let t = tables::column();
+    let x0 = t[b0 as usize];
+    let x1 = t[b1 as usize].rotate_left(8);
+    let x2 = t[b2 as usize].rotate_left(16);
+    let x3 = t[b3 as usize].rotate_left(24);
     x0 ^ x1 ^ x2 ^ x3
 }

@@ -1,9 +1,9 @@
-// The tables of AES. An index into a constant builds the constant anew, so whoever runs many steps makes a table once and passes it by reference.
+// The tables of AES, as statics: whoever asks for a table reads the one that the program holds.
 ghost use Rattle.std.specs.Prelude.{◌≡◌};
 ghost use Rattle.field.specs.Tables.{sub_list, column_list};
 
 // `target/bin/tables | sed -n 1,16p` prints it from its rule; `tests/tables` compares the two.
-const SUB: [u8; 256] = [
+static SUB: [u8; 256] = [
     0x63, 0x7c, 0x77, 0x7b, 0xf2, 0x6b, 0x6f, 0xc5, 0x30, 0x01, 0x67, 0x2b, 0xfe, 0xd7, 0xab, 0x76,
     0xca, 0x82, 0xc9, 0x7d, 0xfa, 0x59, 0x47, 0xf0, 0xad, 0xd4, 0xa2, 0xaf, 0x9c, 0xa4, 0x72, 0xc0,
     0xb7, 0xfd, 0x93, 0x26, 0x36, 0x3f, 0xf7, 0xcc, 0x34, 0xa5, 0xe5, 0xf1, 0x71, 0xd8, 0x31, 0x15,
@@ -22,7 +22,7 @@ const SUB: [u8; 256] = [
     0x8c, 0xa1, 0x89, 0x0d, 0xbf, 0xe6, 0x42, 0x68, 0x41, 0x99, 0x2d, 0x0f, 0xb0, 0x54, 0xbb, 0x16,
 ];
 
-const COLUMN: [u32; 256] = [
+static COLUMN: [u32; 256] = [
     0xa56363c6, 0x847c7cf8, 0x997777ee, 0x8d7b7bf6, 0x0df2f2ff, 0xbd6b6bd6, 0xb16f6fde, 0x54c5c591,
     0x50303060, 0x03010102, 0xa96767ce, 0x7d2b2b56, 0x19fefee7, 0x62d7d7b5, 0xe6abab4d, 0x9a7676ec,
     0x45caca8f, 0x9d82821f, 0x40c9c989, 0x877d7dfa, 0x15fafaef, 0xeb5959b2, 0xc947478e, 0x0bf0f0fb,
@@ -58,15 +58,17 @@ const COLUMN: [u32; 256] = [
 ];
 
 // SUB of 8.1.8.
-pub fn sub() -> [u8; 256]
-    ensures { result ≡ sub_list }
+#[tactic(auto, unfolding(crate::specs::Tables::sub_list))]
+pub fn sub() -> &'static [u8; 256]
+    ensures { result.now ≡ sub_list }
 {
-    SUB
+    &SUB
 }
 
 // T's part from a byte in the lowest place.
-pub fn column() -> [u32; 256]
-    ensures { result ≡ column_list }
+#[tactic(auto, unfolding(crate::specs::Tables::column_list))]
+pub fn column() -> &'static [u32; 256]
+    ensures { result.now ≡ column_list }
 {
-    COLUMN
+    &COLUMN
 }

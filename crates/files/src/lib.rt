@@ -1,33 +1,34 @@
-// Files by name: the start of one read into a buffer, and bytes written as the whole of one or to its end. What fails is said on standard
-// error, behind a label.
+// Files by name: the start of one read into a buffer, and bytes written as the whole of one or to its end; and bytes written to standard
+// output. What fails is said on standard error, behind a label.
 #![tactic(auto)]
 
-ghost use Rattle.std.specs.Prelude.{◌≤◌, ◌≤ℤ◌, pos, length, IfOk};
+ghost use Rattle.std.specs.Prelude.{◌≤◌, length, IfOk};
 
 use std::fs::{File, OpenOptions};
 use std::io;
 use std::io::{Error, ErrorKind, Read, Write};
 
-// Says on standard error what failed. Answers false.
-fn failed(rt: HostRuntime, label: &[u8], error: Error) -> bool {
+// Something failed, and standard error says what.
+#[derive(Clone, Copy, Debug, PartialEq, Eq)]
+pub struct Said;
+
+// Says on standard error what failed.
+fn say(rt: HostRuntime, label: &[u8], error: Error) -> Said {
     let _ = Print::write_all(&rt.stderr(), label);
     let _ = eprintln!(rt; ": {error}");
-    false
+    Said
 }
 
 // A file's name as text, which is what std opens.
 fn name(path: &[u8]) -> io::Result<&str> {
-    match str::from_utf8(path) {
-        Ok(name) => Ok(name),
-        Err(_) => Err(Error::new(ErrorKind::InvalidInput, "file name is not UTF-8")),
-    }
+    str::from_utf8(path).map_err(|_| Error::new(ErrorKind::InvalidInput, "file name is not UTF-8"))
 }
 
 fn open_read(rt: HostRuntime, path: &[u8]) -> io::Result<File> {
     File::open(&rt, name(path)?)
 }
 
-// Reads until buf is full or the file ends. Answers how many bytes.
+// Reads until buf is full or the file ends. Returns how many bytes.
 fn fill(file: &mut File, buf: &mut [u8]) -> io::Result<usize>
     ensures { IfOk result (λ n. n ≤ length buf.new) }
 {
@@ -45,60 +46,45 @@ fn fill(file: &mut File, buf: &mut [u8]) -> io::Result<usize>
     Ok(done)
 }
 
-// Reads the start of a file into buf. Answers how many bytes, 0 where there is no such file, or -1 where it cannot be read.
-pub fn read(rt: HostRuntime, path: &[u8], label: &[u8], buf: &mut [u8]) -> isize
-    ensures { result ≤ℤ pos (length buf.new) }
+// Reads the start of a file into buf. Returns how many bytes, 0 where there is no such file, or the error.
+fn start_of(rt: HostRuntime, path: &[u8], buf: &mut [u8]) -> io::Result<usize>
+    ensures { IfOk result (λ n. n ≤ length buf.new) }
 {
-    let mut file = match open_read(rt, path) {
-        Ok(file) => file,
-        Err(e) => {
-            if e.kind() == ErrorKind::NotFound {
-                return 0;
-            }
-            failed(rt, label, e);
-            return -1;
-        }
-    };
-    match fill(&mut file, buf) {
-        Ok(n) => n as isize,
-        Err(e) => {
-            failed(rt, label, e);
-            -1
-        }
+    match open_read(rt, path) {
+        Ok(mut file) => fill(&mut file, buf),
+        Err(e) if e.kind() == ErrorKind::NotFound => Ok(0),
+        Err(e) => Err(e),
     }
 }
 
-// Writes the bytes to a file that was opened, where it was, and closes it. Answers whether all of them were written.
-fn write(rt: HostRuntime, opened: io::Result<File>, label: &[u8], bytes: &[u8]) -> bool {
-    let mut file = match opened {
-        Ok(file) => file,
-        Err(e) => return failed(rt, label, e),
-    };
-    match file.write_all(bytes) {
-        Ok(()) => true,
-        Err(e) => failed(rt, label, e),
-    }
+// Reads the start of a file into buf. Returns how many bytes, 0 where there is no such file. What fails is said on standard error, behind the label.
+pub fn read(rt: HostRuntime, path: &[u8], label: &[u8], buf: &mut [u8]) -> Result<usize, Said>
+    ensures { IfOk result (λ n. n ≤ length buf.new) }
+{
+    start_of(rt, path, buf).map_err(|e| say(rt, label, e))
+}
+
+// Writes the bytes to a file that was opened, where it was, and closes it.
+fn write(opened: io::Result<File>, bytes: &[u8]) -> io::Result<()> {
+    let mut file = opened?;
+    file.write_all(bytes)
 }
 
 fn open_overwrite(rt: HostRuntime, path: &[u8]) -> io::Result<File> {
     File::create(&rt, name(path)?)
 }
 
-// The bytes become the whole of a file. Answers whether they did.
-pub fn save(rt: HostRuntime, path: &[u8], label: &[u8], bytes: &[u8]) -> bool {
-    write(rt, open_overwrite(rt, path), label, bytes)
+// The bytes become the whole of a file. What fails is said on standard error, behind the label.
+pub fn save(rt: HostRuntime, path: &[u8], label: &[u8], bytes: &[u8]) -> Result<(), Said> {
+    write(open_overwrite(rt, path), bytes).map_err(|e| say(rt, label, e))
 }
 
 // Makes a file where there is none.
 fn make(rt: HostRuntime, path: &[u8]) -> io::Result<()> {
     match File::create_new(&rt, name(path)?) {
         Ok(_) => Ok(()),
-        Err(e) => {
-            if e.kind() == ErrorKind::AlreadyExists {
-                return Ok(());
-            }
-            Err(e)
-        }
+        Err(e) if e.kind() == ErrorKind::AlreadyExists => Ok(()),
+        Err(e) => Err(e),
     }
 }
 
@@ -109,21 +95,23 @@ fn open_append(rt: HostRuntime, path: &[u8]) -> io::Result<File> {
 // Opens a file to write to its end, which is made where there is none.
 fn open_or_make(rt: HostRuntime, path: &[u8]) -> io::Result<File> {
     match open_append(rt, path) {
-        Ok(file) => return Ok(file),
-        Err(e) => {
-            if e.kind() != ErrorKind::NotFound {
-                return Err(e);
-            }
+        Err(e) if e.kind() == ErrorKind::NotFound => {
+            make(rt, path)?;
+            open_append(rt, path)
         }
+        opened => opened,
     }
-    make(rt, path)?;
-    open_append(rt, path)
 }
 
-// The bytes go to the end of a file, which is made where there is none; no bytes make no file. Answers whether they did.
-pub fn append(rt: HostRuntime, path: &[u8], label: &[u8], bytes: &[u8]) -> bool {
-    if bytes.len() == 0 {
-        return true;
+// The bytes go to the end of a file, which is made where there is none; no bytes make no file. What fails is said on standard error, behind the label.
+pub fn append(rt: HostRuntime, path: &[u8], label: &[u8], bytes: &[u8]) -> Result<(), Said> {
+    if bytes.is_empty() {
+        return Ok(());
     }
-    write(rt, open_or_make(rt, path), label, bytes)
+    write(open_or_make(rt, path), bytes).map_err(|e| say(rt, label, e))
+}
+
+// The bytes go to standard output. What fails is said on standard error, behind the label.
+pub fn print(rt: HostRuntime, label: &[u8], bytes: &[u8]) {
+    let _ = rt.write_all(bytes).map_err(|e| say(rt, label, e));
 }

@@ -29,12 +29,10 @@ pub fn mul(a: u64, b: u64) -> u64
     let mut sum: u64 = 0;
     let mut x = a;
     let mut y = b;
-    let mut left: usize = 64;
-    while left > 0 {
-        sum = sum ^ if_one(y % 2, x);
+    for _ in 0..64usize {
+        sum ^= if_one(y % 2, x);
         x = times_x(x);
-        y = y / 2;
-        left -= 1;
+        y /= 2;
     }
     sum
 }
@@ -45,11 +43,9 @@ pub fn inverse(a: u64) -> u64
 {
     let mut r: u64 = 1;
     let mut s = a;
-    let mut left: usize = 63;
-    while left > 0 {
+    for _ in 0..63usize {
         s = mul(s, s);
         r = mul(r, s);
-        left -= 1;
     }
     r
 }

@@ -13,15 +13,13 @@ pub fn multiples(a: u64) -> [u64; 128]
 {
     let mut t = [0u64; 128];
     let mut x = a;
-    let mut at: usize = 0;
-    while at < 128 {
+    for at in (0..128).step_by(4) {
         let y = times_x(x);
         t[at] = 0;
         t[at + 1] = x;
         t[at + 2] = y;
         t[at + 3] = x ^ y;
         x = times_x(y);
-        at += 4;
     }
     t
 }
@@ -32,12 +30,10 @@ pub fn times(t: &[u64; 128], b: u64) -> u64
 {
     let mut sum: u64 = 0;
     let mut y = b;
-    let mut at: usize = 0;
-    while at < 128 {
+    for at in (0..128).step_by(4) {
         let d = (y % 4) as usize;
-        sum = sum ^ t[at + d];
-        y = y / 4;
-        at += 4;
+        sum ^= t[at + d];
+        y /= 4;
     }
     sum
 }

@@ -5,6 +5,7 @@ ghost use Rattle.std.specs.Prelude.{◌≡◌, ◌<◌, length};
 ghost use Rattle.hex_text.specs.Hex.{digit_of, hexadecimal};
 
 // A digit in ASCII: 0 to 9, then a to f.
+#[tactic(auto, unfolding(crate::specs::Hex::digit_of))]
 fn digit(d: u8) -> u8
     requires { d < 16 }
     ensures { result ≡ digit_of d }
@@ -19,11 +20,9 @@ fn digit(d: u8) -> u8
 pub fn fill(n: u64, out: &mut [u8])
     ensures { out.new ≡ hexadecimal (length out.old) n }
 {
-    let mut left = out.len();
     let mut rest = n;
-    while left > 0 {
-        left -= 1;
-        out[left] = digit((rest % 16) as u8);
+    for i in (0..out.len()).rev() {
+        out[i] = digit((rest % 16) as u8);
         rest = rest / 16;
     }
 }

@@ -1,6 +1,6 @@
 -- KCipher-2's states stay in range: products in the fields and Sub_K2 are words, and sums and exclusive ors of words are words.
 -- Assumes nothing.
-use Rattle.std.proofs.Common.{◌≡◌, ℕ, zero, suc, ◌+◌, ◌<◌, List, length, get_or, refl, lit<}
+use Rattle.std.proofs.Common.{◌≡◌, ℕ, zero, suc, List, length, get_or, refl, lit<}
 use Rattle.words.specs.Word.{◌⊕◌, ◌+₃₂◌, rotl, bit}
 use Rattle.words.specs.Strings.{bytes_of}
 use Rattle.words.specs.Lists.{All, none, more, Byte, Word}

@@ -4,5 +4,5 @@ use Rattle.keystream.specs.Stream.{Gen}
 use Rattle.kcipher2.specs.declared.Kcipher2.{Kcipher2}
 use Rattle.kcipher2.specs.Cipher.{next, unit as unit_of}
 
-unfoldable pub gen : Gen Kcipher2
+abbrev pub gen : Gen Kcipher2
 gen = record { unit = 8; next = next; strm = unit_of }

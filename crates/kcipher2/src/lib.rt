@@ -1,13 +1,11 @@
 // KCipher-2 (ISO/IEC 18033-4, 8.5): a state by value, its steps in both modes and its output. Its start from key and IV is in `start`.
-// The caller passes the tables that `kcipher2_tables` and `field::tables::column` make by reference.
 #![tactic(auto)]
 
 pub mod start;
+mod units;
 
 ghost use Rattle.std.specs.Prelude.{◌≡◌, ◌<◌};
 ghost use Rattle.words.specs.Lists.{shifted};
-ghost use Rattle.field.specs.Tables.{column_list};
-ghost use Rattle.kcipher2_tables.specs.Tables.{alpha0_list, alpha1_list, alpha2_list, alpha3_list, Lent};
 ghost use Rattle.kcipher2.specs.Cipher.{by_digit as pick_of, nlf as nlf_of, one_or_two, three_or_none, strm_high, strm_low, strm, fed_a, fed_b};
 ghost use Rattle.kcipher2.specs.Cipher.{pushed as moved_of, sum_right as right_of, sum_left as left_of, clocked, next, next_init};
 
@@ -26,7 +24,7 @@ pub struct Kcipher2 {
 fn nlf(a: u32, b: u32, c: u32, d: u32) -> u32
     ensures { result ≡ nlf_of a b c d }
 {
-    std::num::wrapping_add_u32(a, b) ^ c ^ d
+    a.wrapping_add(b) ^ c ^ d
 }
 
 // x where the digit e is 1, and y where it is 0, without a branch.
@@ -38,22 +36,21 @@ fn pick(e: u32, x: u32, y: u32) -> u32
 }
 
 // The product of w with alpha 1 where the digit e is 1, and with alpha 2 where it is 0.
-fn one_or_two(m1: &[u32; 256], m2: &[u32; 256], e: u32, w: u32) -> u32
-    requires e_bound { e < 2 }
-    requires m1_value { m1.now ≡ alpha1_list }
-    requires m2_value { m2.now ≡ alpha2_list }
+fn one_or_two(e: u32, w: u32) -> u32
+    requires { e < 2 }
     ensures { result ≡ one_or_two e w }
 {
+    let m1 = kcipher2_tables::alpha1();
+    let m2 = kcipher2_tables::alpha2();
     pick(e, field::times_alpha(m1, w), field::times_alpha(m2, w))
 }
 
 // The product of w with alpha 3 where the digit e is 1, and w where it is 0.
-fn three_or_none(m3: &[u32; 256], e: u32, w: u32) -> u32
-    requires e_bound { e < 2 }
-    requires m3_value { m3.now ≡ alpha3_list }
+fn three_or_none(e: u32, w: u32) -> u32
+    requires { e < 2 }
     ensures { result ≡ three_or_none e w }
 {
-    pick(e, field::times_alpha(m3, w), w)
+    pick(e, field::times_alpha(kcipher2_tables::alpha3(), w), w)
 }
 
 // A register of five words moved by one, with x as its last.
@@ -74,6 +71,7 @@ fn shift11(b: [u32; 11], x: u32) -> [u32; 11]
 
 impl Kcipher2 {
     // The high word of Strm.
+    #[tactic(auto, unfolding(crate::specs::Cipher::strm_high))]
     fn high(self) -> u32
         ensures { result ≡ strm_high self }
     {
@@ -83,6 +81,7 @@ impl Kcipher2 {
     }
 
     // The low word of Strm.
+    #[tactic(auto, unfolding(crate::specs::Cipher::strm_low))]
     fn low(self) -> u32
         ensures { result ≡ strm_low self }
     {
@@ -92,25 +91,22 @@ impl Kcipher2 {
     }
 
     // The word that comes into A.
-    fn feed_a(self, m0: &[u32; 256]) -> u32
-        requires { m0.now ≡ alpha0_list }
+    fn feed_a(self) -> u32
         ensures { result ≡ fed_a self }
     {
         let a = self.a;
-        field::times_alpha(m0, a[0]) ^ a[3]
+        field::times_alpha(kcipher2_tables::alpha0(), a[0]) ^ a[3]
     }
 
     // The word that comes into B.
-    fn feed_b(self, m1: &[u32; 256], m2: &[u32; 256], m3: &[u32; 256]) -> u32
-        requires m1_value { m1.now ≡ alpha1_list }
-        requires m2_value { m2.now ≡ alpha2_list }
-        requires m3_value { m3.now ≡ alpha3_list }
+    #[tactic(auto, unfolding(crate::specs::Cipher::fed_b))]
+    fn feed_b(self) -> u32
         ensures { result ≡ fed_b self }
     {
         let a = self.a;
         let b = self.b;
-        let x = one_or_two(m1, m2, a[2] / 1073741824 % 2, b[0]);
-        let y = three_or_none(m3, a[2] / 2147483648 % 2, b[8]);
+        let x = one_or_two(a[2] / 1073741824 % 2, b[0]);
+        let y = three_or_none(a[2] / 2147483648 % 2, b[8]);
         x ^ b[1] ^ b[6] ^ y
     }
 
@@ -119,7 +115,7 @@ impl Kcipher2 {
         ensures { result ≡ right_of self }
     {
         let b = self.b;
-        std::num::wrapping_add_u32(self.l2, b[9])
+        self.l2.wrapping_add(b[9])
     }
 
     // The word whose T is the next L1.
@@ -127,7 +123,7 @@ impl Kcipher2 {
         ensures { result ≡ left_of self }
     {
         let b = self.b;
-        std::num::wrapping_add_u32(self.r2, b[4])
+        self.r2.wrapping_add(b[4])
     }
 
     // A and B moved, with the words x and y, and the words of the nonlinear part.
@@ -149,52 +145,40 @@ impl Kcipher2 {
     }
 
     // The next state, with the words x for A and y for B.
-    fn clock(self, x: u32, y: u32, t: &[u32; 256]) -> Kcipher2
-        requires { t.now ≡ column_list }
+    #[tactic(auto, unfolding(crate::specs::Cipher::clocked))]
+    fn clock(self, x: u32, y: u32) -> Kcipher2
         ensures { result ≡ clocked self x y }
     {
-        let r1 = field::sub_word(t, self.right());
-        let l1 = field::sub_word(t, self.left());
-        let r2 = field::sub_word(t, self.r1);
-        let l2 = field::sub_word(t, self.l1);
+        let r1 = field::sub_word(self.right());
+        let l1 = field::sub_word(self.left());
+        let r2 = field::sub_word(self.r1);
+        let l2 = field::sub_word(self.l1);
         self.moved(x, y, r1, l1, r2, l2)
     }
 
     // A step in INIT mode.
-    pub fn step_init(
-        self,
-        m0: &[u32; 256],
-        m1: &[u32; 256],
-        m2: &[u32; 256],
-        m3: &[u32; 256],
-        t: &[u32; 256],
-    ) -> Kcipher2
-        requires { Lent m0.now m1.now m2.now m3.now t.now }
+    #[tactic(auto, unfolding(crate::specs::Cipher::next_init))]
+    pub fn step_init(self) -> Kcipher2
         ensures { result ≡ next_init self }
     {
-        let x = self.feed_a(m0) ^ self.low();
-        let y = self.feed_b(m1, m2, m3) ^ self.high();
-        self.clock(x, y, t)
+        let x = self.feed_a() ^ self.low();
+        let y = self.feed_b() ^ self.high();
+        self.clock(x, y)
     }
 
     // The next state.
-    pub fn step(
-        self,
-        m0: &[u32; 256],
-        m1: &[u32; 256],
-        m2: &[u32; 256],
-        m3: &[u32; 256],
-        t: &[u32; 256],
-    ) -> Kcipher2
-        requires { Lent m0.now m1.now m2.now m3.now t.now }
+    #[tactic(auto, unfolding(crate::specs::Cipher::next))]
+    #[inline(always)]
+    pub fn step(self) -> Kcipher2
         ensures { result ≡ next self }
     {
-        let x = self.feed_a(m0);
-        let y = self.feed_b(m1, m2, m3);
-        self.clock(x, y, t)
+        let x = self.feed_a();
+        let y = self.feed_b();
+        self.clock(x, y)
     }
 
     // The two words of keystream, the high one first.
+    #[tactic(auto, unfolding(crate::specs::Cipher::strm))]
     pub fn output(self) -> [u32; 2]
         ensures { result ≡ strm self }
     {

@@ -1,19 +1,15 @@
 // The start of KCipher-2 from key and IV (ISO/IEC 18033-4, 8.5.2): the state before any step, and S(0).
-// The caller must ensure the lengths of key and IV, sixteen bytes each, and passes by reference the tables that `kcipher2_tables` and
-// `field::tables::column` make.
+// The caller must ensure the lengths of key and IV, sixteen bytes each.
 ghost use Rattle.std.specs.Prelude.{◌≡◌, length};
-ghost use Rattle.field.specs.Tables.{column_list};
-ghost use Rattle.kcipher2_tables.specs.Tables.{Lent};
 ghost use Rattle.kcipher2.specs.Cipher.{expanded, cells_a, cells_b, loaded, init as init_of};
 
 use crate::Kcipher2;
 
 // The next four words of the internal key.
-fn expand(k: [u32; 4], rcon: u32, t: &[u32; 256]) -> [u32; 4]
-    requires { t.now ≡ column_list }
+fn expand(k: [u32; 4], rcon: u32) -> [u32; 4]
     ensures { result ≡ expanded k rcon }
 {
-    let x0 = k[0] ^ field::sub_word(t, words::rotl8(k[3])) ^ rcon;
+    let x0 = k[0] ^ field::sub_word(k[3].rotate_left(8)) ^ rcon;
     let x1 = k[1] ^ x0;
     let x2 = k[2] ^ x1;
     let x3 = k[3] ^ x2;
@@ -21,6 +17,7 @@ fn expand(k: [u32; 4], rcon: u32, t: &[u32; 256]) -> [u32; 4]
 }
 
 // A0..A4 of words 0 to 3 of the internal key, k, and 4 to 7, e.
+#[tactic(auto, unfolding(crate::specs::Cipher::cells_a))]
 fn arrange_a(k: [u32; 4], e: [u32; 4]) -> [u32; 5]
     ensures { result ≡ cells_a k e }
 {
@@ -28,6 +25,7 @@ fn arrange_a(k: [u32; 4], e: [u32; 4]) -> [u32; 5]
 }
 
 // B0..B10 of words 4 to 7 of the internal key, e, and 8 to 11, g, and of the IV's words v.
+#[tactic(auto, unfolding(crate::specs::Cipher::cells_b))]
 fn arrange_b(e: [u32; 4], g: [u32; 4], v: [u32; 4]) -> [u32; 11]
     ensures { result ≡ cells_b e g v }
 {
@@ -37,15 +35,15 @@ fn arrange_b(e: [u32; 4], g: [u32; 4], v: [u32; 4]) -> [u32; 11]
 }
 
 // The state of key and IV before any step.
-pub fn load(key: &[u8], iv: &[u8], t: &[u32; 256]) -> Kcipher2
+#[tactic(auto, unfolding(crate::specs::Cipher::loaded, crate::specs::Cipher::arranged))]
+pub fn load(key: &[u8], iv: &[u8]) -> Kcipher2
     requires key_len { length key.now ≡ 16 }
     requires iv_len { length iv.now ≡ 16 }
-    requires t_value { t.now ≡ column_list }
     ensures { result ≡ loaded key.now iv.now }
 {
     let k = words::four_at(key, 0);
-    let e = expand(k, 16777216, t);
-    let g = expand(e, 33554432, t);
+    let e = expand(k, 16777216);
+    let g = expand(e, 33554432);
     let a = arrange_a(k, e);
     let b = arrange_b(e, g, words::four_at(iv, 0));
     Kcipher2 {
@@ -60,25 +58,14 @@ pub fn load(key: &[u8], iv: &[u8], t: &[u32; 256]) -> Kcipher2
 
 impl Kcipher2 {
     // S(0) of key and IV.
-    pub fn init(
-        key: &[u8],
-        iv: &[u8],
-        m0: &[u32; 256],
-        m1: &[u32; 256],
-        m2: &[u32; 256],
-        m3: &[u32; 256],
-        t: &[u32; 256],
-    ) -> Kcipher2
+    pub fn init(key: &[u8], iv: &[u8]) -> Kcipher2
         requires key_len { length key.now ≡ 16 }
         requires iv_len { length iv.now ≡ 16 }
-        requires lent { Lent m0.now m1.now m2.now m3.now t.now }
         ensures { result ≡ init_of key.now iv.now }
     {
-        let mut s = load(key, iv, t);
-        let mut i: usize = 0;
-        while i < 24 {
-            s = s.step_init(m0, m1, m2, m3, t);
-            i += 1;
+        let mut s = load(key, iv);
+        for _ in 0..24usize {
+            s = s.step_init();
         }
         s
     }

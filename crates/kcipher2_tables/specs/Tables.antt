@@ -1,8 +1,7 @@
 -- The tables of KCipher-2 (document 000, 8.5.6 to 8.5.9), as lists, and the fields whose products they hold. The program `tables` prints them from these.
 -- Assumes nothing.
-use Rattle.std.specs.Prelude.{◌≡◌, List, [], ◌∷◌, ℕ}
+use Rattle.std.specs.Prelude.{List, [], ◌∷◌, ℕ}
 use Rattle.field.specs.Gf32.{Field}
-use Rattle.field.specs.Tables.{column_list}
 
 -- 8.5.6 to 8.5.9: the fields of α0 to α3, each with a GF(2^8) of its own: x^8 + x^7 + x^6 + x + 1, x^8 + x^5 + x^3 + x^2 + 1, x^8 + x^6 + x^3 + x^2 + 1 and
 -- x^8 + x^6 + x^5 + x^2 + 1. No document prints them; the printed tables are their products with y^4.
@@ -161,11 +160,3 @@ alpha3_list =
     0x173a76c6 ∷ 0x5263204d ∷ 0x9d88dab5 ∷ 0xd8d18c3e ∷ 0x663b4b20 ∷ 0x23621dab ∷ 0xec89e753 ∷ 0xa9d0b1d8 ∷
     0x543cf858 ∷ 0x1165aed3 ∷ 0xde8e542b ∷ 0x9bd702a0 ∷ 0x253dc5be ∷ 0x60649335 ∷ 0xaf8f69cd ∷ 0xead63f46 ∷
     0xb63e82f1 ∷ 0xf367d47a ∷ 0x3c8c2e82 ∷ 0x79d57809 ∷ 0xc73fbf17 ∷ 0x8266e99c ∷ 0x4d8d1364 ∷ 0x08d445ef ∷ []
-
--- m0, m1, m2, m3 and t are lent as αMUL0, αMUL1, αMUL2, αMUL3 and the table of Sub_K2
-pub record Lent (m0 m1 m2 m3 t : List ℕ) : Type 0 where
-  pub is-alpha0 : m0 ≡ alpha0_list
-  pub is-alpha1 : m1 ≡ alpha1_list
-  pub is-alpha2 : m2 ≡ alpha2_list
-  pub is-alpha3 : m3 ≡ alpha3_list
-  pub is-column : t ≡ column_list

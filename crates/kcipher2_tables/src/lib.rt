@@ -1,11 +1,11 @@
-// The tables of KCipher-2. An index into a constant builds the constant anew, so whoever runs many steps makes a table once and passes it by reference.
+// The tables of KCipher-2, as statics: whoever asks for a table reads the one that the program holds.
 #![tactic(auto)]
 
 ghost use Rattle.std.specs.Prelude.{◌≡◌};
 ghost use Rattle.kcipher2_tables.specs.Tables.{alpha0_list, alpha1_list, alpha2_list, alpha3_list};
 
 // `target/bin/tables | sed -n 49,64p` prints it from its rule; `tests/tables` compares the two.
-const ALPHA_MUL0: [u32; 256] = [
+static ALPHA_MUL0: [u32; 256] = [
     0x00000000, 0xb6086d1a, 0xaf10da34, 0x1918b72e, 0x9d207768, 0x2b281a72, 0x3230ad5c, 0x8438c046,
     0xf940eed0, 0x4f4883ca, 0x565034e4, 0xe05859fe, 0x646099b8, 0xd268f4a2, 0xcb70438c, 0x7d782e96,
     0x31801f63, 0x87887279, 0x9e90c557, 0x2898a84d, 0xaca0680b, 0x1aa80511, 0x03b0b23f, 0xb5b8df25,
@@ -41,7 +41,7 @@ const ALPHA_MUL0: [u32; 256] = [
 ];
 
 // `target/bin/tables | sed -n 65,80p` prints it from its rule; `tests/tables` compares the two.
-const ALPHA_MUL1: [u32; 256] = [
+static ALPHA_MUL1: [u32; 256] = [
     0x00000000, 0xa0f5fc2e, 0x6dc7d55c, 0xcd322972, 0xdaa387b8, 0x7a567b96, 0xb76452e4, 0x1791aeca,
     0x996b235d, 0x399edf73, 0xf4acf601, 0x54590a2f, 0x43c8a4e5, 0xe33d58cb, 0x2e0f71b9, 0x8efa8d97,
     0x1fd646ba, 0xbf23ba94, 0x721193e6, 0xd2e46fc8, 0xc575c102, 0x65803d2c, 0xa8b2145e, 0x0847e870,
@@ -77,7 +77,7 @@ const ALPHA_MUL1: [u32; 256] = [
 ];
 
 // `target/bin/tables | sed -n 81,96p` prints it from its rule; `tests/tables` compares the two.
-const ALPHA_MUL2: [u32; 256] = [
+static ALPHA_MUL2: [u32; 256] = [
     0x00000000, 0x5bf87f93, 0xb6bdfe6b, 0xed4581f8, 0x2137b1d6, 0x7acfce45, 0x978a4fbd, 0xcc72302e,
     0x426e2fe1, 0x19965072, 0xf4d3d18a, 0xaf2bae19, 0x63599e37, 0x38a1e1a4, 0xd5e4605c, 0x8e1c1fcf,
     0x84dc5e8f, 0xdf24211c, 0x3261a0e4, 0x6999df77, 0xa5ebef59, 0xfe1390ca, 0x13561132, 0x48ae6ea1,
@@ -113,7 +113,7 @@ const ALPHA_MUL2: [u32; 256] = [
 ];
 
 // `target/bin/tables | sed -n 97,112p` prints it from its rule; `tests/tables` compares the two.
-const ALPHA_MUL3: [u32; 256] = [
+static ALPHA_MUL3: [u32; 256] = [
     0x00000000, 0x4559568b, 0x8ab2ac73, 0xcfebfaf8, 0x71013de6, 0x34586b6d, 0xfbb39195, 0xbeeac71e,
     0xe2027aa9, 0xa75b2c22, 0x68b0d6da, 0x2de98051, 0x9303474f, 0xd65a11c4, 0x19b1eb3c, 0x5ce8bdb7,
     0xa104f437, 0xe45da2bc, 0x2bb65844, 0x6eef0ecf, 0xd005c9d1, 0x955c9f5a, 0x5ab765a2, 0x1fee3329,
@@ -149,29 +149,29 @@ const ALPHA_MUL3: [u32; 256] = [
 ];
 
 // The products of y^4 with each byte, in the field of alpha 0.
-pub fn alpha0() -> [u32; 256]
-    ensures { result ≡ alpha0_list }
+pub fn alpha0() -> &'static [u32; 256]
+    ensures { result.now ≡ alpha0_list }
 {
-    ALPHA_MUL0
+    &ALPHA_MUL0
 }
 
 // The products of y^4 with each byte, in the field of alpha 1.
-pub fn alpha1() -> [u32; 256]
-    ensures { result ≡ alpha1_list }
+pub fn alpha1() -> &'static [u32; 256]
+    ensures { result.now ≡ alpha1_list }
 {
-    ALPHA_MUL1
+    &ALPHA_MUL1
 }
 
 // The products of y^4 with each byte, in the field of alpha 2.
-pub fn alpha2() -> [u32; 256]
-    ensures { result ≡ alpha2_list }
+pub fn alpha2() -> &'static [u32; 256]
+    ensures { result.now ≡ alpha2_list }
 {
-    ALPHA_MUL2
+    &ALPHA_MUL2
 }
 
 // The products of y^4 with each byte, in the field of alpha 3.
-pub fn alpha3() -> [u32; 256]
-    ensures { result ≡ alpha3_list }
+pub fn alpha3() -> &'static [u32; 256]
+    ensures { result.now ≡ alpha3_list }
 {
-    ALPHA_MUL3
+    &ALPHA_MUL3
 }

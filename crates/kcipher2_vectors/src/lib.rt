@@ -2,54 +2,18 @@
 // registers from cell 0 up. Where the scan cuts a key, an IV or a keystream short, a line in brackets says so.
 #![tactic(auto)]
 
-ghost use Rattle.std.specs.Prelude.{◌≡◌};
-ghost use Rattle.field.specs.Tables.{column_list};
-ghost use Rattle.kcipher2_tables.specs.Tables.{Lent};
-
 use kcipher2::Kcipher2;
 use std::io::Stdout;
-use vectors_text::{cells, end, heading, inputs, line, named, remark, time, unhex, word};
+use vectors_text::{cells, end, heading, inputs, line, named, remark, time, unhex, units};
 
-fn unit(stdout: Stdout, z: [u32; 2]) {
-    word(stdout, z[0]);
-    word(stdout, z[1]);
-}
-
-fn put_units(
-    stdout: Stdout,
-    from: Kcipher2,
-    m0: &[u32; 256],
-    m1: &[u32; 256],
-    m2: &[u32; 256],
-    m3: &[u32; 256],
-    t: &[u32; 256],
-    units: usize,
-)
-    requires { Lent m0.now m1.now m2.now m3.now t.now }
-{
-    let mut s = from;
-    let mut i: usize = 0;
-    while i < units {
-        unit(stdout, s.output());
-        s = s.step(m0, m1, m2, m3, t);
-        i += 1;
-    }
-    end(stdout);
-}
-
-fn stream(stdout: Stdout, k: &[u8], v: &[u8], units: usize) {
+fn stream(stdout: Stdout, k: &[u8], v: &[u8], count: usize) {
     inputs(stdout, k, v);
     let mut key = [0u8; 16];
     let mut iv = [0u8; 16];
     unhex(k, &mut key);
     unhex(v, &mut iv);
-    let m0 = kcipher2_tables::alpha0();
-    let m1 = kcipher2_tables::alpha1();
-    let m2 = kcipher2_tables::alpha2();
-    let m3 = kcipher2_tables::alpha3();
-    let t = field::tables::column();
-    let s = Kcipher2::init(&key, &iv, &m0, &m1, &m2, &m3, &t);
-    put_units(stdout, s, &m0, &m1, &m2, &m3, &t, units);
+    let s = Kcipher2::init(&key, &iv);
+    units(stdout, s, count);
 }
 
 fn state(stdout: Stdout, s: Kcipher2) {
@@ -64,38 +28,17 @@ fn state(stdout: Stdout, s: Kcipher2) {
     end(stdout);
 }
 
-fn next(
-    s: Kcipher2,
-    i: usize,
-    m0: &[u32; 256],
-    m1: &[u32; 256],
-    m2: &[u32; 256],
-    m3: &[u32; 256],
-    t: &[u32; 256],
-) -> Kcipher2
-    requires { Lent m0.now m1.now m2.now m3.now t.now }
-{
-    if i < 24 {
-        return s.step_init(m0, m1, m2, m3, t);
-    }
-    s.step(m0, m1, m2, m3, t)
+fn next(s: Kcipher2, i: usize) -> Kcipher2 {
+    if i < 24 { s.step_init() } else { s.step() }
 }
 
 // The states from time -24 on.
-fn states_from(stdout: Stdout, from: Kcipher2, t: &[u32; 256])
-    requires { t.now ≡ column_list }
-{
-    let m0 = kcipher2_tables::alpha0();
-    let m1 = kcipher2_tables::alpha1();
-    let m2 = kcipher2_tables::alpha2();
-    let m3 = kcipher2_tables::alpha3();
+fn states_from(stdout: Stdout, from: Kcipher2) {
     let mut s = from;
-    let mut i: usize = 0;
-    while i < 32 {
+    for i in 0..32 {
         time(stdout, i, 24);
         state(stdout, s);
-        s = next(s, i, &m0, &m1, &m2, &m3, t);
-        i += 1;
+        s = next(s, i);
     }
 }
 
@@ -104,8 +47,7 @@ fn states(stdout: Stdout) {
     let mut iv = [0u8; 16];
     unhex(b"80000000000000000000000000000000", &mut key);
     unhex(b"00000004000000030000000200000001", &mut iv);
-    let t = field::tables::column();
-    states_from(stdout, kcipher2::start::load(&key, &iv, &t), &t);
+    states_from(stdout, kcipher2::start::load(&key, &iv));
 }
 
 // C.6.

@@ -64,6 +64,10 @@ put-more xs ys a k text out o1 o2 l h q d d' =
     ∙ ap (λ (x : List ℕ). X ++ (xor_from f (0 + a) (take k (drop a text)) ++ x)) (sym (drop-drop k a out))
     ∙ fill-part f 0 a k text out h q
 
+-- the bytes that were written are those of another list, which is the same
+pub put-of : {ks unit : List ℕ} (n k : ℕ) (text out out' : List ℕ) → ks ≡ unit → BytesPut ks n k text out out' → BytesPut unit n k text out out'
+put-of n k text out out' e w = subst (λ (x : List ℕ). BytesPut x n k text out out') e w
+
 -- the bytes of a unit that were written to the part of out from byte at on, which was lent and comes back
 pub put-at : {ks unit : List ℕ} → ks ≡ unit → (u : ℕ) (text : List ℕ) (at : ℕ) (out o' : List ℕ) → at ≤ length out → BytesPut ks 0 u (lent_from at text) (lent_from at out) o'
     → UnitPut unit u text at out (back_from at out o')
@@ -347,26 +351,6 @@ module _ {S : Type 0} (g : Gen S) (u : ℕ) (pos : zero < u) (unit-is : g.unit �
       let w = r.within in
       let n : k ≡ t = omega arith in
       subst (λ (x : ℕ). Running g u s₁ text o₁ out cur (at + x)) n (r.on s₁ o₁ f b)
-
--- eight units of four bytes, each written after those before it and followed by a step
-module _ {S : Type 0} (g : Gen S) (unit-is : g.unit ≡ 4) {s : S} {text out : List ℕ} (in-text : 32 ≤ length text) (in-out : 32 ≤ length out) where
-  one-of-eight : {o o' : List ℕ} {c c' : S} {k : ℕ} → k + 4 ≤ 32 → Running g 4 s text out o c k → UnitPut (g.strm c) 4 text k o o' → c' ≡ g.next c
-      → Running g 4 s text out o' c' (k + 4)
-  one-of-eight m r w e = running-unit g 4 (omega arith) unit-is r (omega arith) (omega arith) w e
-
-  pub eight-units : {s1 s2 s3 s4 s5 s6 s7 s8 : S} {o1 o2 o3 o4 o5 o6 o7 o8 : List ℕ}
-      → UnitPut (g.strm s) 4 text 0 out o1 → s1 ≡ g.next s → UnitPut (g.strm s1) 4 text 4 o1 o2 → s2 ≡ g.next s1 → UnitPut (g.strm s2) 4 text 8 o2 o3 → s3 ≡ g.next s2
-      → UnitPut (g.strm s3) 4 text 12 o3 o4 → s4 ≡ g.next s3 → UnitPut (g.strm s4) 4 text 16 o4 o5 → s5 ≡ g.next s4 → UnitPut (g.strm s5) 4 text 20 o5 o6 → s6 ≡ g.next s5
-      → UnitPut (g.strm s6) 4 text 24 o6 o7 → s7 ≡ g.next s6 → UnitPut (g.strm s7) 4 text 28 o7 o8 → s8 ≡ g.next s7 → PartCrypted g 0 s 32 text out s8 o8
-  eight-units w1 e1 w2 e2 w3 e3 w4 e4 w5 e5 w6 e6 w7 e7 w8 e8 =
-      let r1 = one-of-eight (omega arith) (running-start g 4 (omega arith) unit-is) w1 e1 in
-      let r2 = one-of-eight (omega arith) r1 w2 e2 in
-      let r3 = one-of-eight (omega arith) r2 w3 e3 in
-      let r4 = one-of-eight (omega arith) r3 w4 e4 in
-      let r5 = one-of-eight (omega arith) r4 w5 e5 in
-      let r6 = one-of-eight (omega arith) r5 w6 e6 in
-      let r7 = one-of-eight (omega arith) r6 w7 e7 in
-      (one-of-eight (omega arith) r7 w8 e8).did
 
 -- ---- two generators that show the same stream
 

@@ -8,6 +8,7 @@ use lib.Dec.{eqb}
 use lib.ListN.{length, get_or, take, drop}
 use lib.Seq.{take_at}
 use borrow.Author.Tests.{ltb-false, not-false}
+use Rattle.std.specs.Prelude.{Result, Ok, Err}
 use Rattle.words.specs.Tests.{pick}
 use Rattle.words.specs.Lists.{All, Byte}
 use Rattle.words.proofs.Ranges.{all_drop}
@@ -16,9 +17,8 @@ use Rattle.ciphers.specs.Table.{cipher_at}
 use Rattle.ciphers.proofs.States.{all_take}
 use Rattle.command.specs.declared.Command.{Command}
 use Rattle.command.specs.declared.Command.TheVariants.{Tray, Own, Crypt, Park, Resume, Close, Change, Load, Start}
-use Rattle.command.specs.declared.Decoded.{Decoded}
-use Rattle.command.specs.declared.Decoded.TheVariants.{Run, Refused}
-use Rattle.command.specs.Decode.{decode_of, number_of, operands_of, line_of, size_of}
+use Rattle.command.specs.declared.Refusal.{Refusal}
+use Rattle.command.specs.Decode.{refusal_number, decode_of, number_of, operands_of, line_of, size_of}
 use Rattle.command.proofs.Rows.{not-zero}
 use Rattle.command.proofs.Reading.{ReadIn, refused-in, run_in, Has, read-in}
 use Rattle.machine.specs.Machine.{Machine, line_at, idle, shown, based, opened, loaded_line, enciphered, stream_of, image_of, image_line, image_from, image_number, Call, Effect, refuse, put, crypt, park, resume, change, start, public, key_field, iv_field, iv_for, view_of, effect_of, of_decoded, decide, perform, step, shows}
@@ -53,20 +53,20 @@ module _ (m : Machine) (a : Call) where
   made e = made_of a (shows (perform m a.text e))
 
   -- an effect, and what the log makes of it for a command that was read so
-  record Explains (d : Decoded) (e : Effect) : Type 0 where
+  record Explains (d : Result Command Refusal) (e : Effect) : Type 0 where
     pub is : Explained m a e (pick (eqb (made e).code 0) (done_by (made e) d) did_nothing)
 
   -- the bytes written stand first in out
   first : (w : List ℕ) → take (length w) (w ++ drop (length w) a.out) ≡ w
   first w = take_at w (drop (length w) a.out) (length w) refl
 
-  explains-refusal : (d : Decoded) (k : ℕ) → eqb k 0 ≡ false → Explains d (refuse k)
+  explains-refusal : (d : Result Command Refusal) (k : ℕ) → eqb k 0 ≡ false → Explains d (refuse k)
   explains-refusal d k z = record { is = rw z was-refused }
 
   names : (c : Command) → Has a.command c → Names a (line_of c)
   names c h = record { below = h.line; named = h.named }
 
-  explains-effect : (c : Command) → Has a.command c → Passed c (public m) a → Explains (Run c) (effect_of c (public m) a)
+  explains-effect : (c : Command) → Has a.command c → Passed c (public m) a → Explains (Ok c) (effect_of c (public m) a)
   unfolding view_of
   explains-effect (Tray i c k) h p = record { is = was-open (names (Tray i c k) h) }
   explains-effect (Own i c) h p = record { is = was-open (names (Own i c) h) }
@@ -105,9 +105,9 @@ module _ (m : Machine) (a : Call) where
             (was-start (names (Start i) h) (is-loaded m a i (passed 19 p)));
       }
 
-  explains-decoded : (d : Decoded) → ReadIn a.command d → Explains d (of_decoded d (public m) a)
-  explains-decoded (Refused k) (refused-in n) = explains-refusal (Refused k) k (not-zero k n)
-  explains-decoded (Run c) (run_in h) = decided-by (Explains (Run c)) (λ k z. explains-refusal (Run c) k (not-zero k z)) c (public m) a (explains-effect c h)
+  explains-decoded : (d : Result Command Refusal) → ReadIn a.command d → Explains d (of_decoded d (public m) a)
+  explains-decoded (Err e) (refused-in n) = explains-refusal (Err e) (refusal_number e) (not-zero (refusal_number e) n)
+  explains-decoded (Ok c) (run_in h) = decided-by (Explains (Ok c)) (λ k z. explains-refusal (Ok c) k (not-zero k z)) c (public m) a (explains-effect c h)
 
   pub explained : Explained m a (decide (public m) a) (did (made_of a (shows (step m a))))
   unfolding step decide

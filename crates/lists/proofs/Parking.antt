@@ -9,10 +9,10 @@ use native.Mathlib.Omega.{arith}
 use lib.Dec.{eqb, ltb}
 use lib.ListN.{get_or}
 use borrow.Author.Tests.{eqb-true, eqb-false, eq-eqb, lt-ltb}
+use Rattle.std.specs.Prelude.{Ok}
 use Rattle.words.specs.Tests.{pick}
 use Rattle.words.proofs.Tests.{both_left}
 use Rattle.command.specs.declared.Command.TheVariants.{Resume}
-use Rattle.command.specs.declared.Decoded.TheVariants.{Run}
 use Rattle.command.specs.Decode.{decode_of}
 use Rattle.machine.specs.Machine.{Line, MLine, Machine, Seen, line_at, plain_line, shown, image_of, image_in, image_line, image_from, image_number, image_ok, from_ok, change_ok, open_ok, Call, Effect, refuse, put, crypt, park, resume, change, start, View, view_of, public, is_idle, refuse_if, effect_of, decided, decide, perform, step, fresh_machine, fresh_card}
 use Rattle.machine.specs.Parks.{Parks, count_for, held_for, number_now, parked, holds}
@@ -85,7 +85,7 @@ count-after (y ∷ ys) m i r l =
 
 -- ---- a resume that is read, on an idle line, with a whole image
 
-resume-code : (m : Machine) (a : Call) (j : ℕ) → decode_of a.command ≡ Run (Resume j) → (line_at m j).mode ≡ 0 → image_ok (image_line (image_in a.command)) ≡ true →
+resume-code : (m : Machine) (a : Call) (j : ℕ) → decode_of a.command ≡ Ok (Resume j) → (line_at m j).mode ≡ 0 → image_ok (image_line (image_in a.command)) ≡ true →
     from_ok (image_in a.command) ≡ true →
     (h : Bool) → holds m.parks (image_from (image_in a.command)) (image_number (image_in a.command)) ≡ h → (step m a).outcome.code ≡ pick h 0 14
 unfolding step decide decided refuse_if view_of

@@ -1,10 +1,10 @@
 -- What each call of a list did, by what it was lent and what it answered; and what each line has enciphered since its open or resume, with the streams that its changes brought.
 -- Assumes nothing.
-use Rattle.std.specs.Prelude.{ℕ, ◌+◌, ◌-◌, List, [], ◌∷◌, ◌++◌, length, take, eqb, leb}
+use Rattle.std.specs.Prelude.{ℕ, ◌+◌, ◌-◌, List, [], ◌∷◌, ◌++◌, length, take, eqb, leb, Result, Ok, Err}
 use Rattle.words.specs.Tests.{pick}
 use Rattle.command.specs.declared.Command.TheVariants.{Tray, Own, Crypt, Park, Resume, Close, Change, Load, Start}
-use Rattle.command.specs.declared.Decoded.{Decoded}
-use Rattle.command.specs.declared.Decoded.TheVariants.{Run, Refused}
+use Rattle.command.specs.declared.Command.{Command}
+use Rattle.command.specs.declared.Refusal.{Refusal}
 use Rattle.command.specs.Decode.{decode_of, number_of, operands_of}
 use Rattle.machine.specs.Machine.{MLine, idle, plain, along, byte_of, opened, loaded_line, started_line, based, image_line, image_in, key_field, iv_field, key_for, iv_for, stream_of}
 use Rattle.machine.specs.Calls.{Made}
@@ -24,17 +24,17 @@ pub data Did : Type 0 where
 
 -- An accepted command. A crypt's input is the data it uses, its output what it writes. Of a change the bytes of key and IV are all that stand in tray and command, and of a start those of its IV: the
 -- line's cipher says how many are taken.
-abbrev pub done_by : Made → Decoded → Did
-done_by x (Run (Tray i c k)) = did-open i (number_of c) (key_for (number_of c) (key_field (operands_of (Tray i c k)) x.call)) (iv_for (number_of c) (iv_field (operands_of (Tray i c k)) x.call))
-done_by x (Run (Own i c)) = did-open i (number_of c) (key_for (number_of c) (key_field (operands_of (Own i c)) x.call)) (iv_for (number_of c) (iv_field (operands_of (Own i c)) x.call))
-done_by x (Run (Crypt i n)) = did-crypt i (take x.used-data x.call.text) (take x.written x.out)
-done_by x (Run (Park i)) = did-park i (take x.written x.out)
-done_by x (Run (Resume i)) = did-resume i (image_in x.call.command)
-done_by x (Run (Close i)) = did-close i
-done_by x (Run (Change i k p)) = did-change i p (key_field (operands_of (Change i k p)) x.call) (iv_field (operands_of (Change i k p)) x.call)
-done_by x (Run (Load i c k)) = did-load i (number_of c) (key_for (number_of c) (key_field (operands_of (Load i c k)) x.call))
-done_by x (Run (Start i)) = did-start i (iv_field (operands_of (Start i)) x.call)
-done_by x (Refused k) = did_nothing
+abbrev pub done_by : Made → Result Command Refusal → Did
+done_by x (Ok (Tray i c k)) = did-open i (number_of c) (key_for (number_of c) (key_field (operands_of (Tray i c k)) x.call)) (iv_for (number_of c) (iv_field (operands_of (Tray i c k)) x.call))
+done_by x (Ok (Own i c)) = did-open i (number_of c) (key_for (number_of c) (key_field (operands_of (Own i c)) x.call)) (iv_for (number_of c) (iv_field (operands_of (Own i c)) x.call))
+done_by x (Ok (Crypt i n)) = did-crypt i (take x.used-data x.call.text) (take x.written x.out)
+done_by x (Ok (Park i)) = did-park i (take x.written x.out)
+done_by x (Ok (Resume i)) = did-resume i (image_in x.call.command)
+done_by x (Ok (Close i)) = did-close i
+done_by x (Ok (Change i k p)) = did-change i p (key_field (operands_of (Change i k p)) x.call) (iv_field (operands_of (Change i k p)) x.call)
+done_by x (Ok (Load i c k)) = did-load i (number_of c) (key_for (number_of c) (key_field (operands_of (Load i c k)) x.call))
+done_by x (Ok (Start i)) = did-start i (iv_field (operands_of (Start i)) x.call)
+done_by x (Err e) = did_nothing
 
 abbrev pub did : Made → Did
 did x = pick (eqb x.code 0) (done_by x (decode_of x.call.command)) did_nothing

@@ -1,9 +1,8 @@
 -- What a park writes and what becomes of a parked call that is brought back, in every list of calls from a fresh card; and what of two lists makes a park write the same.
 -- Assumes nothing.
-use Rattle.std.specs.Prelude.{◌≡◌, List, [], ◌∷◌, ℕ, suc, ◌+◌, eqb}
+use Rattle.std.specs.Prelude.{◌≡◌, List, [], ◌∷◌, ℕ, suc, ◌+◌, eqb, Ok}
 use Rattle.words.specs.Tests.{pick}
 use Rattle.command.specs.declared.Command.TheVariants.{Resume}
-use Rattle.command.specs.declared.Decoded.TheVariants.{Run}
 use Rattle.command.specs.Decode.{decode_of}
 use Rattle.machine.specs.Machine.{fresh_card, image_in, image_from, image_number}
 use Rattle.machine.specs.Calls.{Made, card_after, line_on}
@@ -12,7 +11,7 @@ use Rattle.lists.specs.OneStream.{Stands}
 
 -- x is a whole resume command with this image, for line j, which is idle before it
 pub record Brings (j : ℕ) (image : List ℕ) (sofar : List Made) (x : Made) : Type 0 where
-  pub read_as : decode_of x.call.command ≡ Run (Resume j)
+  pub read_as : decode_of x.call.command ≡ Ok (Resume j)
   pub image-is : image_in x.call.command ≡ image
   pub idle-line : (line_on (card_after fresh_card sofar) j).mode ≡ 0
 

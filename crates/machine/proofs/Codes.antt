@@ -6,23 +6,23 @@ use mathlib.Core.List.{List, []}
 use Prim.Native.Nat.{ℕ, ◌≤◌}
 use lib.Dec.{lit≤}
 use native.Mathlib.Omega.{arith}
+use Rattle.std.specs.Prelude.{Result, Ok, Err}
 use Rattle.words.specs.Tests.{pick}
 use Rattle.command.specs.declared.Command.{Command}
 use Rattle.command.specs.declared.Command.TheVariants.{Tray, Own, Crypt, Park, Resume, Close, Change, Load, Start}
-use Rattle.command.specs.declared.Decoded.{Decoded}
-use Rattle.command.specs.declared.Decoded.TheVariants.{Run, Refused}
-use Rattle.command.specs.Decode.{decode_of}
+use Rattle.command.specs.declared.Refusal.{Refusal}
+use Rattle.command.specs.Decode.{refusal_number, decode_of}
 use Rattle.command.proofs.Rows.{above, below}
 use Rattle.command.proofs.Reading.{ReadIn, refused-in, read-in}
 use Rattle.machine.specs.Machine.{Machine, Seen, Shown, Call, Effect, effect_of, of_decoded, decide, public, answer, perform, step, shows, back, card_ok, card_step, last_number}
 use Rattle.machine.proofs.Rows.{decided-by}
 
 -- a command that is not read is not answered with 0
-pub refusal-told : (s : List ℕ) (k : ℕ) → decode_of s ≡ Refused k → k ≡ 0 → ⊥
+pub refusal-told : (s : List ℕ) (k : Refusal) → decode_of s ≡ Err k → refusal_number k ≡ 0 → ⊥
 refusal-told s k e z = by (subst (ReadIn s) e (read-in s))
   where
-    by : ReadIn s (Refused k) → ⊥
-    by (refused-in n) = let h = above k n in omega arith
+    by : ReadIn s (Err k) → ⊥
+    by (refused-in n) = let h = above (refusal_number k) n in omega (arith, h, z)
 
 module _ (m : Machine) (a : Call) where
   abbrev Small : Effect → Type 0
@@ -39,9 +39,9 @@ module _ (m : Machine) (a : Call) where
   effect-small (Load i c k) = lit≤ tt
   effect-small (Start i) = lit≤ tt
 
-  decoded-small : (d : Decoded) → ReadIn a.command d → Small (of_decoded d (public m) a)
-  decoded-small (Run c) h = decided-by Small below c (public m) a (λ _. effect-small c)
-  decoded-small (Refused k) (refused-in n) = below k n
+  decoded-small : (d : Result Command Refusal) → ReadIn a.command d → Small (of_decoded d (public m) a)
+  decoded-small (Ok c) h = decided-by Small below c (public m) a (λ _. effect-small c)
+  decoded-small (Err e) (refused-in n) = below (refusal_number e) n
 
   pub code-small : (step m a).outcome.code ≤ last_number
   unfolding step decide

@@ -6,9 +6,9 @@ use Prim.Native.Nat.{ℕ, zero, suc}
 use native.Mathlib.Omega.{arith}
 use lib.ListN.{get_or, take}
 use borrow.Author.Tests.{eqb-false}
+use Rattle.std.specs.Prelude.{Ok}
 use Rattle.ciphers.specs.Table.{cipher_at, mugi}
 use Rattle.command.specs.declared.Command.TheVariants.{Crypt}
-use Rattle.command.specs.declared.Decoded.TheVariants.{Run}
 use Rattle.command.specs.Decode.{decode_of}
 use Rattle.machine.specs.Machine.{Line, MLine, Machine, Seen, Call, Effect, idle, idle_line, based, enciphered, line_at, back, public, decided, decide, perform, step, card_step}
 use Rattle.machine.specs.Calls.{line_on}
@@ -19,7 +19,7 @@ use Rattle.machine.proofs.Deciphers.{deciphered}
 
 -- an accepted crypt of n bytes on line i
 pub record Frame (c : Seen) (a : Call) (i n : ℕ) : Type 0 where
-  pub read : decode_of a.command ≡ Run (Crypt i n)
+  pub read : decode_of a.command ≡ Ok (Crypt i n)
   pub accepted : (card_step c a).outcome.code ≡ 0
 
 base-at : (ls : List Line) (i : ℕ) → get_or (map based ls) i idle ≡ based (get_or ls i idle_line)
@@ -37,7 +37,7 @@ module _ (m : Machine) (a : Call) (i n : ℕ) where
       decided-by Accepts (λ k z e. absurd (eqb-false k 0 (not-zero k z) e)) (Crypt i n) (public m) a
       (λ p e. refl)
 
-  stepped : decode_of a.command ≡ Run (Crypt i n) → (step m a).outcome.code ≡ 0 → (step m a).outcome.output ≡ enciphered (line_at m i) (take n a.text)
+  stepped : decode_of a.command ≡ Ok (Crypt i n) → (step m a).outcome.code ≡ 0 → (step m a).outcome.output ≡ enciphered (line_at m i) (take n a.text)
   unfolding step decide
   stepped e = rw e crypted
 

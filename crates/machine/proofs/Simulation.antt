@@ -10,6 +10,7 @@ use lib.ListN.{length, get_or, take, drop, set, replicate, length-take, length-d
 use lib.Seq.{length-take-le}
 use native.Mathlib.Omega.{arith}
 use borrow.Author.Tests.{ltb-false, eqb-true, not-false}
+use Rattle.std.specs.Prelude.{Result, Ok, Err}
 use Rattle.words.specs.Tests.{pick}
 use Rattle.words.specs.Lists.{All, Byte}
 use Rattle.card_sizes.specs.Sizes.{key_length}
@@ -25,8 +26,7 @@ use Rattle.command.specs.declared.Cipher.{Cipher}
 use Rattle.command.specs.declared.Cipher.TheVariants.{Zuc, Rabbit, Snow128, Snow256, Kcipher2, Mugi}
 use Rattle.command.specs.declared.Command.{Command}
 use Rattle.command.specs.declared.Command.TheVariants.{Tray, Own, Crypt, Park, Resume, Close, Change, Load, Start}
-use Rattle.command.specs.declared.Decoded.{Decoded}
-use Rattle.command.specs.declared.Decoded.TheVariants.{Run, Refused}
+use Rattle.command.specs.declared.Refusal.{Refusal}
 use Rattle.command.specs.Decode.{decode_of, number_of, operands_of}
 use Rattle.card_moves.specs.Moves.{position_on}
 use Rattle.machine.specs.Machine.{Line, MLine, Machine, idle, shown, based, moved, enciphered, changed, started_line, image_of, image_in, from_ok, line_at, seen, back, line_count, View, no_view, view_of, public, view_at, is_open, is_loaded, waits, limit, key_field, iv_field, key_for, blank_key, stream_of, Call, Effect, refuse, put, crypt, park, resume, change, start, effect_of, of_decoded, decide, answer, perform, step, shows, card_step, fresh_machine, fresh_card}
@@ -158,9 +158,9 @@ module _ (m : Machine) (a : Call) where
   fair-effect b (Start i) p =
       fair-start (is-loaded i (passed 19 p)) (all_take (cipher_at (view_at (public m) i).cipher).iv (all_take 16 (all_drop 2 b.command)))
 
-  fair : CallBytes a → (d : Decoded) → Fair m a (of_decoded d (public m) a)
-  fair b (Refused k) = fair-refuse
-  fair b (Run c) = decided-by (Fair m a) (λ k z. fair-refuse) c (public m) a (fair-effect b c)
+  fair : CallBytes a → (d : Result Command Refusal) → Fair m a (of_decoded d (public m) a)
+  fair b (Err e) = fair-refuse
+  fair b (Ok c) = decided-by (Fair m a) (λ k z. fair-refuse) c (public m) a (fair-effect b c)
 
 -- what a call was decided to do
 pub fair-step : (m : Machine) (a : Call) → CallBytes a → Fair m a (decide (public m) a)

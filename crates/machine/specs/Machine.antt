@@ -2,7 +2,7 @@
 -- command. A step is `perform (decide ..)`: `decide` goes down the refusals in their order, by what is public of the lines, the command, key and image bytes that a check names, and the lengths of data and
 -- out; `perform` does what is left.
 -- Assumes nothing.
-use Rattle.std.specs.Prelude.{Bool, true, false, not, List, [], ◌∷◌, ◌++◌, map, ℕ, zero, suc, ◌+◌, ◌-◌, ◌*◌, ◌/◌, ltb, leb, eqb, length, get_or, take, drop, set, replicate}
+use Rattle.std.specs.Prelude.{Bool, true, false, not, List, [], ◌∷◌, ◌++◌, map, ℕ, zero, suc, ◌+◌, ◌-◌, ◌*◌, ◌/◌, ltb, leb, eqb, length, get_or, take, drop, set, replicate, Result, Ok, Err}
 pub use Rattle.card_sizes.specs.Sizes.{image_length, line_count, limit}
 use Rattle.card_sizes.specs.Sizes.{key_length, iv_length, own_key, resume_image}
 use Rattle.words.specs.Tests.{both, pick}
@@ -13,11 +13,10 @@ use Rattle.ciphers.specs.Table.{cipher_at, is_cipher, all_zero}
 use Rattle.ciphers.specs.Kept.{kept_of, start_of, keeps_ok}
 use Rattle.command.specs.declared.Command.{Command}
 use Rattle.command.specs.declared.Command.TheVariants.{Tray, Own, Crypt, Park, Resume, Close, Change, Load, Start}
-use Rattle.command.specs.declared.Decoded.{Decoded}
-use Rattle.command.specs.declared.Decoded.TheVariants.{Run, Refused}
+use Rattle.command.specs.declared.Refusal.{Refusal}
 pub use Rattle.command.specs.Rows.{last_number, tray_ok}
 use Rattle.command.specs.Rows.{Row, ◌when◌, unless, either, among}
-use Rattle.command.specs.Decode.{decode_of, number_of, Operands, operands_of, size_of}
+use Rattle.command.specs.Decode.{refusal_number, decode_of, number_of, Operands, operands_of, size_of}
 use Rattle.machine.specs.Fields.{in_fields, fields_at}
 use Rattle.machine.specs.Parks.{Parks, fresh_parks, no_more, number_now, parked, holds, taken, parks_ok}
 
@@ -426,9 +425,9 @@ rows_of c v a = refusals (operands_of c) v (facts_of (operands_of c) v a)
 unfoldable pub decided : Command → Public → Call → Effect
 decided c v a = unless refuse_if (rows_of c v a) (effect_of c v a)
 
-abbrev pub of_decoded : Decoded → Public → Call → Effect
-of_decoded (Refused k) v a = refuse k
-of_decoded (Run c) v a = decided c v a
+abbrev pub of_decoded : Result Command Refusal → Public → Call → Effect
+of_decoded (Err e) v a = refuse (refusal_number e)
+of_decoded (Ok c) v a = decided c v a
 
 unfoldable pub decide : Public → Call → Effect
 decide v a = of_decoded (decode_of a.command) v a

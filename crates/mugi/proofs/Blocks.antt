@@ -12,8 +12,8 @@ use lib.ListN.{get_or}
 use lib.Pow.{pow-add, pow_pos, shl-shr, shr_lt, mod-pow-add, high, low}
 use Rattle.words.specs.Word.{◌⊕◌, word, rotl, high as high16, low as low16, b0, b1, b2, b3}
 use Rattle.words.specs.Lists.{Byte, Word}
-use Rattle.words.proofs.Ranges.{byte_of, join-word}
-use Rattle.words.proofs.Table.{entries}
+use Rattle.words.proofs.Ranges.{at-word, byte_of, join-word}
+use Rattle.words.proofs.Table.{all_under, entries}
 use Rattle.words.proofs.Xor.{byte-xor, word-xor}
 use Rattle.field.specs.Gf8.{mul8}
 use Rattle.field.specs.Aes.{aes, sub}
@@ -47,6 +47,11 @@ listed k = part (get_or sub_list k 0)
 listed-rule : (k : ℕ) → k < 2 ^ 8 → get_or mixing_list k 0 ≡ listed k
 unfolding listed mixing_list sub_list
 listed-rule k h = entries listed mixing_list tt k h
+
+-- an entry is a word
+pub entry-word : (j : ℕ) → Word (get_or mixing_list j 0)
+unfolding mixing_list
+entry-word = at-word (all_under 0x100000000 mixing_list tt)
 
 entry : (x : ℕ) → get_or mixing_list (x % 2 ^ 8) 0 ≡ part (sub (x % 2 ^ 8))
 unfolding listed

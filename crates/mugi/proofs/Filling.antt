@@ -3,7 +3,7 @@
 -- Assumes nothing.
 use mathlib.Core.Path.{◌≡◌, refl, ap, ap₂, sym, ◌∙◌}
 use mathlib.Core.List.{List, [], ◌∷◌, ◌++◌}
-use Prim.Native.Nat.{ℕ, zero, suc, ◌+◌, ◌-◌, ◌<◌, ◌≤◌}
+use Prim.Native.Nat.{ℕ, zero, suc, ◌+◌, ◌-◌, ◌<◌}
 use native.Mathlib.Omega.{arith}
 use lib.ListN.{get_or, set, replicate}
 use Rattle.words.specs.Lists.{iter}
@@ -16,7 +16,6 @@ abbrev after : List ℕ → ℕ → Mugi
 after a₀ i = iter i filled (record { a = a₀; b = [] })
 
 pub record Turned (a₀ : List ℕ) (i : ℕ) (a b : List ℕ) : Type 0 where
-  pub most : i ≤ 16
   pub a-is : a ≡ (after a₀ i).a
   pub b-is : b ≡ replicate (16 - i) 0 ++ (after a₀ i).b
 
@@ -27,7 +26,7 @@ stored (suc n) x l = ap (λ (r : List ℕ). 0 ∷ r) (stored n x l)
 
 pub none : (a₀ : List ℕ) → Turned a₀ 0 a₀ (replicate 16 0)
 unfolding iter
-none a₀ = record { most = omega arith; a-is = refl; b-is = refl }
+none a₀ = record { a-is = refl; b-is = refl }
 
 module _ {a₀ a a' b : List ℕ} (i : ℕ) (h : i < 16) (s : Turned a₀ i a b) (e : a' ≡ turned a) where
   step : after a₀ (i + 1) ≡ filled (after a₀ i)
@@ -48,7 +47,6 @@ module _ {a₀ a a' b : List ℕ} (i : ℕ) (h : i < 16) (s : Turned a₀ i a b)
   more =
       let n : 15 - i ≡ 16 - (i + 1) = omega arith in
       record {
-        most = omega arith;
         a-is = a-step ∙ ap (λ (t : Mugi). t.a) (sym step);
         b-is = b-step ∙ ap₂ (λ (k : ℕ) (t : Mugi). replicate k 0 ++ t.b) n (sym step);
       }

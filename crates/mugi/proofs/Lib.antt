@@ -2,3 +2,4 @@ pub mod Blocks
 pub mod Steps
 pub mod Ranges
 pub mod Filling
+pub mod Rotations

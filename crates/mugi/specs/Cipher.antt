@@ -2,7 +2,7 @@
 -- Assumes nothing.
 use Rattle.std.specs.Prelude.{List, [], ◌∷◌, ◌++◌, ℕ, ◌+◌, ◌*◌, ◌/◌, ◌%◌, ◌-◌, ◌^◌, get_or}
 use Rattle.words.specs.Word.{◌⊕◌, ◌∥◌, word, high, low, b0, b1, b2, b3}
-use Rattle.words.specs.Strings.{word_at, bytes_of}
+use Rattle.words.specs.Strings.{bytes_of}
 use Rattle.words.specs.Lists.{iter}
 use Rattle.field.specs.Gf8.{mul8}
 use Rattle.field.specs.Aes.{aes, sub}

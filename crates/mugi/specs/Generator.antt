@@ -4,5 +4,5 @@ use Rattle.mugi.specs.declared.Mugi.{Mugi}
 use Rattle.mugi.specs.Cipher.{next, unit as unit_of}
 use Rattle.keystream.specs.Stream.{Gen}
 
-unfoldable pub gen : Gen Mugi
+abbrev pub gen : Gen Mugi
 gen = record { unit = 8; next = next; strm = unit_of }

@@ -1,13 +1,12 @@
 // MUGI (ISO/IEC 18033-4, 8.1): a state by value, its step and its output. Its start from key and IV is in `start`.
-// The caller passes the table that `mugi_tables` makes by reference.
 #![tactic(auto)]
 
 pub mod start;
+mod units;
 
 ghost use Rattle.std.specs.Prelude.{◌≡◌, ◌+◌, ◌*◌, ◌/◌, ◌%◌, ◌^◌};
 ghost use Rattle.words.specs.Word.{◌∥◌, high, low};
-ghost use Rattle.mugi_tables.specs.Tables.{mixing_list};
-ghost use Rattle.mugi.specs.Cipher.{rotl64, mixed_half as mixed_of, f as f_of, lambda1, next, strm};
+ghost use Rattle.mugi.specs.Cipher.{mixed_half as mixed_of, f as f_of, lambda1, next, strm};
 ghost use Rattle.mugi.specs.Steps.{stirred, first as first_of, second as second_of, moved as moved_of};
 
 use blocks::{left, right};
@@ -19,53 +18,32 @@ pub struct Mugi {
     pub b: [u64; 16],
 }
 
-// x <<< 17.
-fn rotl17(x: u64) -> u64
-    ensures { result ≡ rotl64 17 x }
-{
-    (x << 17) + (x >> 47)
-}
-
-// x <<< 32.
-fn rotl32(x: u64) -> u64
-    ensures { result ≡ rotl64 32 x }
-{
-    (x << 32) + (x >> 32)
-}
-
-// x <<< 48.
-fn rotl48(x: u64) -> u64
-    ensures { result ≡ rotl64 48 x }
-{
-    (x << 48) + (x >> 16)
-}
-
 // M of what S_R makes of the bytes of w, its halves exchanged: a byte in another place gives what it gives in the highest, rotated.
-fn mixed(w: u32, t: &[u32; 256]) -> u32
-    requires { t.now ≡ mixing_list }
+fn mixed(w: u32) -> u32
     ensures { result ≡ low (mixed_of w) ∥ high (mixed_of w) }
 {
-    let x3 = t[(w % 256) as usize];
-    let x2 = t[(w / 256 % 256) as usize];
-    let x1 = t[(w / 65536 % 256) as usize];
-    let x0 = t[(w / 16777216 % 256) as usize];
-    words::rotl16(x0) ^ words::rotl8(x1) ^ x2 ^ words::rotl24(x3)
+    let t = mugi_tables::mixing();
+    let b = words::bytes(w);
+    let x0 = t[b[0] as usize];
+    let x1 = t[b[1] as usize];
+    let x2 = t[b[2] as usize];
+    let x3 = t[b[3] as usize];
+    x0.rotate_left(16) ^ x1.rotate_left(8) ^ x2 ^ x3.rotate_left(24)
 }
 
 // Q4 Q5 Q2 Q3 Q0 Q1 Q6 Q7, of l, which is Q2 Q3 Q0 Q1, and r, which is Q6 Q7 Q4 Q5.
 fn shuffle(l: u32, r: u32) -> u64
     ensures { result ≡ r % 2 ^ 16 * 2 ^ 48 + l * 2 ^ 16 + r / 2 ^ 16 }
 {
-    rotl48(r as u64) + (l as u64) * 65536
+    (r as u64).rotate_left(48) + (l as u64) * 65536
 }
 
 // F, of X xor T.
-fn f(x: u64, t: &[u32; 256]) -> u64
-    requires { t.now ≡ mixing_list }
+fn f(x: u64) -> u64
     ensures { result ≡ f_of x }
 {
-    let l = mixed(left(x), t);
-    let r = mixed(right(x), t);
+    let l = mixed(left(x));
+    let r = mixed(right(x));
     shuffle(l, r)
 }
 
@@ -84,7 +62,7 @@ fn stir(a: [u64; 3], x: u64, y: u64) -> [u64; 3]
 fn lambda(b: [u64; 16], x: u64) -> [u64; 16]
     ensures { result ≡ lambda1 b x }
 {
-    let y = rotl32(b[13]);
+    let y = b[13].rotate_left(32);
     [
         b[15] ^ x,
         b[0],
@@ -107,23 +85,21 @@ fn lambda(b: [u64; 16], x: u64) -> [u64; 16]
 
 impl Mugi {
     // What F gives for a1.
-    fn first(self, t: &[u32; 256]) -> u64
-        requires { t.now ≡ mixing_list }
+    fn first(self) -> u64
         ensures { result ≡ first_of self }
     {
         let a = self.a;
         let b = self.b;
-        f(a[1] ^ b[4], t)
+        f(a[1] ^ b[4])
     }
 
     // What F gives for a2.
-    fn second(self, t: &[u32; 256]) -> u64
-        requires { t.now ≡ mixing_list }
+    fn second(self) -> u64
         ensures { result ≡ second_of self }
     {
         let a = self.a;
         let b = self.b;
-        f(a[1] ^ rotl17(b[10]), t)
+        f(a[1] ^ b[10].rotate_left(17))
     }
 
     // The state after a step where F gives x and y.
@@ -141,12 +117,12 @@ impl Mugi {
     }
 
     // The next state.
-    pub fn step(self, t: &[u32; 256]) -> Mugi
-        requires { t.now ≡ mixing_list }
+    #[inline(always)]
+    pub fn step(self) -> Mugi
         ensures { result ≡ next self }
     {
-        let x = self.first(t);
-        let y = self.second(t);
+        let x = self.first();
+        let y = self.second();
         self.moved(x, y)
     }
 

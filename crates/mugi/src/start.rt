@@ -1,26 +1,11 @@
 // The start of MUGI from key and IV (ISO/IEC 18033-4, 8.1.2): the state of a key, with an IV, and S(0).
-// The caller must ensure the lengths of key and IV, sixteen bytes each, and passes by reference the table that `mugi_tables` makes.
+// The caller must ensure the lengths of key and IV, sixteen bytes each.
 ghost use Rattle.std.specs.Prelude.{◌≡◌, ◌+◌, ◌≤◌, length};
 ghost use Rattle.words.specs.Lists.{iter};
-ghost use Rattle.mugi_tables.specs.Tables.{mixing_list};
-ghost use Rattle.mugi.specs.Cipher.{rotl64, rotr64, spread as spread_of, turned, keyed as keyed_of, added, with_iv, init as init_of};
+ghost use Rattle.mugi.specs.Cipher.{spread as spread_of, turned, keyed as keyed_of, added, with_iv, init as init_of};
 
 use crate::{Mugi, f, stir};
 use blocks::block_at;
-
-// x <<< 7.
-fn rotl7(x: u64) -> u64
-    ensures { result ≡ rotl64 7 x }
-{
-    (x << 7) + (x >> 57)
-}
-
-// x >>> 7.
-fn rotr7(x: u64) -> u64
-    ensures { result ≡ rotr64 7 x }
-{
-    (x << 57) + (x >> 7)
-}
 
 // Three blocks of a key or an IV.
 pub fn spread(k: &[u8]) -> [u64; 3]
@@ -29,7 +14,11 @@ pub fn spread(k: &[u8]) -> [u64; 3]
 {
     let k0 = block_at(k, 0);
     let k1 = block_at(k, 8);
-    [k0, k1, rotl7(k0) ^ rotr7(k1) ^ 0x6a09e667f3bcc908]
+    [
+        k0,
+        k1,
+        k0.rotate_left(7) ^ k1.rotate_right(7) ^ 0x6a09e667f3bcc908,
+    ]
 }
 
 // The blocks of an IV added to a.
@@ -40,72 +29,61 @@ pub fn add(a: [u64; 3], v: [u64; 3]) -> [u64; 3]
 }
 
 // A turn of rho1, without b.
-pub fn turn(a: [u64; 3], t: &[u32; 256]) -> [u64; 3]
-    requires { t.now ≡ mixing_list }
+pub fn turn(a: [u64; 3]) -> [u64; 3]
     ensures { result ≡ turned a }
 {
-    let x = f(a[1], t);
+    let x = f(a[1]);
     stir(a, x, x)
 }
 
 // Sixteen turns.
-fn turns(a: [u64; 3], t: &[u32; 256]) -> [u64; 3]
-    requires { t.now ≡ mixing_list }
+fn turns(a: [u64; 3]) -> [u64; 3]
     ensures { result ≡ iter 16 turned a }
 {
     let mut x = a;
-    let mut i: usize = 0;
-    while i < 16 {
-        let y = turn(x, t);
+    for _ in 0..16usize {
+        let y = turn(x);
         x = y;
-        i += 1;
     }
     x
 }
 
 // The state of a key: sixteen turns, and a0 of each in b.
-fn keyed(key: &[u8], t: &[u32; 256]) -> Mugi
-    requires key_len { length key.now ≡ 16 }
-    requires t_value { t.now ≡ mixing_list }
+fn keyed(key: &[u8]) -> Mugi
+    requires { length key.now ≡ 16 }
     ensures { result ≡ keyed_of key.now }
 {
     let mut a = spread(key);
     let mut b = [0u64; 16];
-    let mut i: usize = 0;
-    while i < 16 {
-        a = turn(a, t);
+    for i in 0..16 {
+        a = turn(a);
         b[15 - i] = a[0];
-        i += 1;
     }
     Mugi { a, b }
 }
 
 // The state with an IV: it is added to a, and sixteen turns follow.
-fn with_iv(st: Mugi, iv: &[u8], t: &[u32; 256]) -> Mugi
-    requires iv_len { length iv.now ≡ 16 }
-    requires t_value { t.now ≡ mixing_list }
+fn with_iv(st: Mugi, iv: &[u8]) -> Mugi
+    requires { length iv.now ≡ 16 }
     ensures { result ≡ with_iv st iv.now }
 {
     let a = st.a;
     let b = st.b;
     let v = spread(iv);
-    let mixed_a = turns(add(a, v), t);
+    let mixed_a = turns(add(a, v));
     Mugi { a: mixed_a, b }
 }
 
 impl Mugi {
     // S(0) of key and IV.
-    pub fn init(key: &[u8], iv: &[u8], t: &[u32; 256]) -> Mugi
+    pub fn init(key: &[u8], iv: &[u8]) -> Mugi
         requires key_len { length key.now ≡ 16 }
         requires iv_len { length iv.now ≡ 16 }
-        requires t_value { t.now ≡ mixing_list }
         ensures { result ≡ init_of key.now iv.now }
     {
-        let mut s = with_iv(keyed(key, t), iv, t);
-        let mut i: usize = 0;
-        while i < 16 {
-            s = s.step(t);
-            i += 1;
+        let mut s = with_iv(keyed(key), iv);
+        for _ in 0..16usize {
+            s = s.step();
         }
         s
     }

@@ -1,10 +1,10 @@
-// The table of MUGI. An index into a constant builds the constant anew, so whoever runs many steps makes the table once and passes it by reference.
+// The table of MUGI.
 #![tactic(auto)]
 
 ghost use Rattle.std.specs.Prelude.{◌≡◌};
 ghost use Rattle.mugi_tables.specs.Tables.{mixing_list};
 
-const MIXING: [u32; 256] = [
+static MIXING: [u32; 256] = [
     0xc66363a5, 0xf87c7c84, 0xee777799, 0xf67b7b8d, 0xfff2f20d, 0xd66b6bbd, 0xde6f6fb1, 0x91c5c554,
     0x60303050, 0x02010103, 0xce6767a9, 0x562b2b7d, 0xe7fefe19, 0xb5d7d762, 0x4dababe6, 0xec76769a,
     0x8fcaca45, 0x1f82829d, 0x89c9c940, 0xfa7d7d87, 0xeffafa15, 0xb25959eb, 0x8e4747c9, 0xfbf0f00b,
@@ -40,8 +40,8 @@ const MIXING: [u32; 256] = [
 ];
 
 // M's part from what S_R makes of a byte in the highest place.
-pub fn mixing() -> [u32; 256]
-    ensures { result ≡ mixing_list }
+pub fn mixing() -> &'static [u32; 256]
+    ensures { result.now ≡ mixing_list }
 {
-    MIXING
+    &MIXING
 }

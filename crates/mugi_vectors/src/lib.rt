@@ -3,27 +3,18 @@
 #![tactic(auto)]
 
 ghost use Rattle.std.specs.Prelude.{◌≡◌, length};
-ghost use Rattle.mugi_tables.specs.Tables.{mixing_list};
 
 use mugi::Mugi;
 use std::io::Stdout;
-use vectors_text::{block, end, heading, inputs, line, listing, put, remark, time, unhex};
+use vectors_text::{block, end, heading, inputs, line, listing, put, remark, time, unhex, units};
 
-fn stream(stdout: Stdout, k: &[u8], v: &[u8], units: usize) {
+fn stream(stdout: Stdout, k: &[u8], v: &[u8], count: usize) {
     inputs(stdout, k, v);
     let mut key = [0u8; 16];
     let mut iv = [0u8; 16];
     unhex(k, &mut key);
     unhex(v, &mut iv);
-    let t = mugi_tables::mixing();
-    let mut s = Mugi::init(&key, &iv, &t);
-    let mut i: usize = 0;
-    while i < units {
-        block(stdout, s.output());
-        s = s.step(&t);
-        i += 1;
-    }
-    end(stdout);
+    units(stdout, Mugi::init(&key, &iv), count);
 }
 
 // Block i of a register, at the start of a line where four stand before it.
@@ -38,10 +29,8 @@ fn nth(stdout: Stdout, i: usize, x: u64) {
 // Blocks, four to a line.
 fn blocks(stdout: Stdout, name: &[u8], s: &[u64]) {
     put(stdout, name);
-    let mut i: usize = 0;
-    while i < s.len() {
-        nth(stdout, i, s[i]);
-        i += 1;
+    for (i, x) in s.iter().enumerate() {
+        nth(stdout, i, *x);
     }
     end(stdout);
 }
@@ -59,19 +48,16 @@ fn state(stdout: Stdout, s: Mugi) {
 }
 
 // A key's turns: the state before each, and after the last, which is returned.
-fn keying(stdout: Stdout, key: &[u8], t: &[u32; 256]) -> Mugi
-    requires key_len { length key.now ≡ 16 }
-    requires t_value { t.now ≡ mixing_list }
+fn keying(stdout: Stdout, key: &[u8]) -> Mugi
+    requires { length key.now ≡ 16 }
 {
     let mut a = mugi::start::spread(key);
     let mut b = [0u64; 16];
-    let mut i: usize = 0;
-    while i < 16 {
+    for i in 0..16 {
         listing(stdout, b"rho function ", i);
         state(stdout, Mugi { a, b });
-        a = mugi::start::turn(a, t);
+        a = mugi::start::turn(a);
         b[15 - i] = a[0];
-        i += 1;
     }
     line(stdout, b"buffer init");
     state(stdout, Mugi { a, b });
@@ -79,21 +65,18 @@ fn keying(stdout: Stdout, key: &[u8], t: &[u32; 256]) -> Mugi
 }
 
 // An IV's turns: a before each, since b stays, and the state after the last, which is returned.
-fn mixing(stdout: Stdout, s: Mugi, iv: &[u8], t: &[u32; 256]) -> Mugi
-    requires iv_len { length iv.now ≡ 16 }
-    requires t_value { t.now ≡ mixing_list }
+fn mixing(stdout: Stdout, s: Mugi, iv: &[u8]) -> Mugi
+    requires { length iv.now ≡ 16 }
 {
     let start = s.a;
     let b = s.b;
     let v = mugi::start::spread(iv);
     let mut a = mugi::start::add(start, v);
-    let mut i: usize = 0;
-    while i < 16 {
+    for i in 0..16 {
         listing(stdout, b"rho function ", i);
         short(stdout, a);
-        let next = mugi::start::turn(a, t);
+        let next = mugi::start::turn(a);
         a = next;
-        i += 1;
     }
     line(stdout, b"state init");
     state(stdout, Mugi { a, b });
@@ -101,18 +84,14 @@ fn mixing(stdout: Stdout, s: Mugi, iv: &[u8], t: &[u32; 256]) -> Mugi
 }
 
 // The start's updates: the states after the first fifteen, and S(0) after the sixteenth, which is returned.
-fn updates(stdout: Stdout, from: Mugi, t: &[u32; 256]) -> Mugi
-    requires { t.now ≡ mixing_list }
-{
+fn updates(stdout: Stdout, from: Mugi) -> Mugi {
     let mut s = from;
-    let mut i: usize = 1;
-    while i < 16 {
-        s = s.step(t);
+    for i in 1..16 {
+        s = s.step();
         listing(stdout, b"update ", i);
         state(stdout, s);
-        i += 1;
     }
-    s.step(t)
+    s.step()
 }
 
 // The annex's 54 listings. Its last update of the start is time 0, and its updates of the stream are times 1 to 4.
@@ -121,16 +100,13 @@ fn states(stdout: Stdout) {
     let mut iv = [0u8; 16];
     unhex(b"000102030405060708090a0b0c0d0e0f", &mut key);
     unhex(b"f0e0d0c0b0a090807060504030201000", &mut iv);
-    let t = mugi_tables::mixing();
-    let loaded = keying(stdout, &key, &t);
-    let mixed = mixing(stdout, loaded, &iv, &t);
-    let mut s = updates(stdout, mixed, &t);
-    let mut i: usize = 0;
-    while i < 5 {
+    let loaded = keying(stdout, &key);
+    let mixed = mixing(stdout, loaded, &iv);
+    let mut s = updates(stdout, mixed);
+    for i in 0..5 {
         time(stdout, i, 0);
         state(stdout, s);
-        s = s.step(&t);
-        i += 1;
+        s = s.step();
     }
 }
 

@@ -162,14 +162,13 @@ replaced-all {f} {before} e r = r.front.is ∙ ap (λ (k : ℕ). spelled (tab k 
 -- ---- the loop of a sealing
 
 pub record Chaining (A : ℕ) (out₀ out : List ℕ) (n prev i : ℕ) : Type 0 where
-  pub most : i ≤ n
   pub fits : 8 * n ≤ length out₀
   pub same_length : length out ≡ length out₀
   pub done : Replaced (chained A (λ k. block_at out₀ (8 * k))) out₀ out i
   pub last : prev ≡ before 0 (λ k. block_at out₀ (8 * k)) i
 
 pub chaining-none : (A : ℕ) (out : List ℕ) (n : ℕ) → 8 * n ≤ length out → Chaining A out out n 0 0
-chaining-none A out n h = record { most = omega arith; fits = h; same_length = refl; done = replaced-none _ out; last = refl }
+chaining-none A out n h = record { fits = h; same_length = refl; done = replaced-none _ out; last = refl }
 
 pub chaining-more : {A : ℕ} {out₀ out ys : List ℕ} {n prev i w y : ℕ} → i < n → Chaining A out₀ out n prev i → w ≡ block_at out (8 * i)
     → y ≡ mul A w ⊕ prev → ys ≡ spell y ++ drop 8 (take (length out - 8 * i) (drop (8 * i) out))
@@ -180,7 +179,6 @@ chaining-more {A} {out₀} {i = i} q s ew ey k =
     let is : _ ≡ x i = ew ∙ replaced-next s.done in
     let d = replaced-more (omega arith) (ey ∙ ap₂ (λ (a b : ℕ). mul A a ⊕ b) is s.last) s.done k in
     record {
-      most = omega arith;
       fits = h;
       same_length = replaced-length d;
       done = d;
@@ -190,7 +188,6 @@ chaining-more {A} {out₀} {i = i} q s ew ey k =
 -- ---- the loop of an opening
 
 pub record Unchaining (I : ℕ) (s held₀ held : List ℕ) (n prev i : ℕ) : Type 0 where
-  pub most : i ≤ n
   pub fits : 8 * n ≤ length held₀
   pub in-sealed : 8 * n ≤ length s
   pub same_length : length held ≡ length held₀
@@ -198,7 +195,7 @@ pub record Unchaining (I : ℕ) (s held₀ held : List ℕ) (n prev i : ℕ) : T
   pub last : prev ≡ before 0 (backed I (λ k. block_at s (8 * k))) i
 
 pub unchaining-none : (I : ℕ) (s held : List ℕ) (n : ℕ) → 8 * n ≤ length s → 8 * n ≤ length held → Unchaining I s held held n 0 0
-unchaining-none I s held n hs h = record { most = omega arith; fits = h; in-sealed = hs; same_length = refl; done = replaced-none _ held; last = refl }
+unchaining-none I s held n hs h = record { fits = h; in-sealed = hs; same_length = refl; done = replaced-none _ held; last = refl }
 
 back_step : (I : ℕ) (c : ℕ → ℕ) (i : ℕ) → backed I c i ≡ mul I (c i ⊕ before 0 (backed I c) i)
 back_step I c zero = refl
@@ -214,7 +211,6 @@ unchaining-more {I} {s} {held₀} {i = i} q u ec ew eh ey k =
     let hi : _ ≡ block_at held₀ (8 * i) = eh ∙ replaced-next u.done in
     let d = replaced-more (omega arith) (ey ∙ (λ j. hi j ⊕ (ec j ⊕ wi j))) u.done k in
     record {
-      most = omega arith;
       fits = f;
       in-sealed = u.in-sealed;
       same_length = replaced-length d;

@@ -19,14 +19,12 @@ pub fn chain(a: u64, count: usize, out: &mut [u8])
 {
     let t = multiples(a);
     let mut prev: u64 = 0;
-    let mut i: usize = 0;
-    while i < count {
+    for i in 0..count {
         let at = 8 * i;
         let w = block_at(out, at);
         let y = times(&t, w) ^ prev;
         put_block(y, &mut out[at..]);
         prev = w;
-        i += 1;
     }
 }
 
@@ -38,8 +36,7 @@ pub fn unchain(inverse: u64, count: usize, sealed: &[u8], held: &mut [u8])
 {
     let t = multiples(inverse);
     let mut prev: u64 = 0;
-    let mut i: usize = 0;
-    while i < count {
+    for i in 0..count {
         let at = 8 * i;
         let c = block_at(sealed, at);
         let w = times(&t, c ^ prev);
@@ -47,7 +44,6 @@ pub fn unchain(inverse: u64, count: usize, sealed: &[u8], held: &mut [u8])
         let y = h ^ (c ^ w);
         put_block(y, &mut held[at..]);
         prev = w;
-        i += 1;
     }
 }
 
@@ -58,11 +54,7 @@ pub fn is_genuine(held: &[u8], n: usize, last: u64, redundancy: &[u8]) -> bool
         (eqb (block_at held.now (n + 8)) (block_at redundancy.now 0)) }
 {
     let padding = block_at(held, n);
-    if padding != last {
-        return false;
-    }
-    let m = n + 8;
-    let given = block_at(held, m);
+    let given = block_at(held, n + 8);
     let r = block_at(redundancy, 0);
-    given == r
+    padding == last && given == r
 }

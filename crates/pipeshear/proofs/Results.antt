@@ -4,10 +4,8 @@ use mathlib.Core.Path.{◌≡◌, refl, ap, ap₂, sym, ◌∙◌}
 use mathlib.Core.Bool.{Bool, not}
 use mathlib.Core.List.{List, [], ◌∷◌}
 use Prim.Native.Nat.{ℕ}
-use native.Mathlib.Omega.{arith}
 use lib.Dec.{eqb}
-use lib.ListN.{length, set, drop}
-use lib.Seq.{sets-eq, drop-length}
+use lib.ListN.{length}
 use borrow.Author.Tests.{eq-eqb, ne_eqb}
 use Rattle.words.specs.Tests.{pick}
 use Rattle.card_sizes.specs.Sizes.{card_size}
@@ -18,11 +16,6 @@ use Rattle.card_outcome.specs.declared.Outcome.{Outcome}
 use Rattle.card_outcome.specs.Outcomes.{outcome_of}
 use Rattle.card_outcome.specs.Leaves.{CallLeaves}
 use Rattle.pipeshear.specs.Calls.{Result, shown_as, result_of, EntryPromise}
-
--- the counts, stored one by one
-pub three : (x y z : ℕ) (l : List ℕ) → length l ≡ 3 → set (set (set l 0 x) 1 y) 2 z ≡ x ∷ y ∷ z ∷ []
-three x y z l h =
-    sets-eq (x ∷ y ∷ z ∷ []) l 0 (omega arith) ∙ ap (λ (r : List ℕ). x ∷ y ∷ z ∷ r) (ap (λ (k : ℕ). drop k l) (sym h) ∙ drop-length l)
 
 module _ (ws : List ℕ) (a : Call) (counts : List ℕ) where
   -- of counts and of a card that are as long as they should be, or not

@@ -9,6 +9,7 @@ ghost use Rattle.std.specs.Prelude.{◌≡◌, [], ◌∷◌, length};
 ghost use Rattle.card_outcome.specs.Leaves.{call_of};
 ghost use Rattle.pipeshear.specs.Calls.{EntryPromise};
 
+use card_outcome::Outcome;
 use card_sizes::CARD;
 
 // The three counts.
@@ -16,9 +17,7 @@ fn put_counts(command: usize, text: usize, written: usize, counts: &mut [usize])
     requires { length counts.old ≡ 3 }
     ensures { counts.new ≡ command ∷ text ∷ written ∷ [] }
 {
-    counts[0] = command;
-    counts[1] = text;
-    counts[2] = written;
+    counts.copy_from_slice(&[command, text, written]);
 }
 
 // A call on a card's words. Returns the code. The three counts are the bytes used of command and of data, and the bytes written to out; they are zeros
@@ -42,7 +41,7 @@ pub fn pipeshear_call<'a>(
         put_counts(0, 0, 0, counts);
         return 255;
     }
-    let r = card_engine::run(card, command, tray, data, out);
+    let r = Outcome::from(card_engine::run(card, command, tray, data, out));
     put_counts(r.used_command, r.used_data, r.written, counts);
     r.code
 }

@@ -4,5 +4,5 @@ use Rattle.keystream.specs.Stream.{Gen}
 use Rattle.rabbit.specs.declared.Rabbit.{Rabbit}
 use Rattle.rabbit.specs.Cipher.{next, unit as unit_of}
 
-unfoldable pub gen : Gen Rabbit
+abbrev pub gen : Gen Rabbit
 gen = record { unit = 16; next = next; strm = unit_of }

@@ -2,6 +2,7 @@
 #![tactic(auto)]
 
 pub mod start;
+mod units;
 
 ghost use Rattle.std.specs.Prelude.{◌≡◌, ◌+◌, ◌^◌, ◌<◌};
 ghost use Rattle.words.specs.Word.{◌+₃₂◌, rotl};
@@ -36,12 +37,10 @@ fn count(c: [u32; 8], b: u32) -> Counted
     let a = rabbit_tables::a();
     let mut next = c;
     let mut carry = b;
-    let mut i: usize = 0;
-    while i < 8 {
+    for i in 0..8 {
         let temp = sum(c[i], a[i], carry);
         next[i] = (temp % 4294967296) as u32;
         carry = (temp / 4294967296) as u32;
-        i += 1;
     }
     Counted { c: next, b: carry }
 }
@@ -50,7 +49,7 @@ fn count(c: [u32; 8], b: u32) -> Counted
 fn g(u: u32, v: u32) -> u32
     ensures { result ≡ g_of u v }
 {
-    let t = std::num::wrapping_add_u32(u, v) as u64;
+    let t = u.wrapping_add(v) as u64;
     let square = t * t;
     ((square % 4294967296) as u32) ^ ((square / 4294967296) as u32)
 }
@@ -75,17 +74,15 @@ fn gs(x: [u32; 8], c: [u32; 8]) -> [u32; 8]
 fn even(a: u32, b: u32, c: u32) -> u32
     ensures { result ≡ a +₃₂ rotl 16 b +₃₂ rotl 16 c }
 {
-    std::num::wrapping_add_u32(
-        std::num::wrapping_add_u32(a, words::rotl16(b)),
-        words::rotl16(c),
-    )
+    a.wrapping_add(b.rotate_left(16))
+        .wrapping_add(c.rotate_left(16))
 }
 
 // An odd X of 7.3.3, step 6.
 fn odd(a: u32, b: u32, c: u32) -> u32
     ensures { result ≡ a +₃₂ rotl 8 b +₃₂ c }
 {
-    std::num::wrapping_add_u32(std::num::wrapping_add_u32(a, words::rotl8(b)), c)
+    a.wrapping_add(b.rotate_left(8)).wrapping_add(c)
 }
 
 // X0..X7 of G0..G7.
@@ -113,6 +110,7 @@ fn part(v: u32, w: u32, y: u32) -> u32
 
 impl Rabbit {
     // The next state.
+    #[inline(always)]
     pub fn step(self) -> Rabbit
         ensures { result ≡ next self }
     {

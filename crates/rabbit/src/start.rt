@@ -1,9 +1,9 @@
 // The start of Rabbit from key and IV (ISO/IEC 18033-4, Amd 1:2009, 7.3.2): the state of a key, with an IV in its counters, and S(0).
 // The caller must ensure the lengths of key and IV, sixteen bytes and eight.
-ghost use Rattle.std.specs.Prelude.{◌≡◌, ◌+◌, ◌≤◌, length};
+ghost use Rattle.std.specs.Prelude.{◌≡◌, ◌+◌, ◌*◌, ◌≤◌, length};
 ghost use Rattle.words.specs.Word.{◌∥◌};
-ghost use Rattle.words.specs.Lists.{iter};
-ghost use Rattle.rabbit.specs.Cipher.{next, half_at, parts8 as parts8_of, parts4 as parts4_of, arranged, loaded, master as master_of};
+ghost use Rattle.words.specs.Lists.{iter, tab};
+ghost use Rattle.rabbit.specs.Cipher.{next, half_at, arranged, loaded, master as master_of};
 ghost use Rattle.rabbit.specs.Cipher.{iv_words, modified, with_iv, started, init as init_of};
 
 use crate::Rabbit;
@@ -13,9 +13,7 @@ fn half_at(s: &[u8], i: usize) -> u16
     requires { i + 2 ≤ length s.now }
     ensures { result ≡ half_at s.now i }
 {
-    let h = words::wide(s[i + 1]);
-    let l = words::wide(s[i]);
-    (h * 256 + l) as u16
+    u16::from_le_bytes([s[i], s[i + 1]])
 }
 
 // h || l.
@@ -25,34 +23,16 @@ fn join(h: u16, l: u16) -> u32
     (h as u32) * 65536 + (l as u32)
 }
 
-// K0..K7.
-fn parts8(k: &[u8]) -> [u16; 8]
-    requires { length k.now ≡ 16 }
-    ensures { result ≡ parts8_of k.now }
+// The parts of 16 bits of a string, from its start.
+fn parts<const N: usize>(s: &[u8]) -> [u16; N]
+    requires { length s.now ≡ 2 * N }
+    ensures { result ≡ tab N (λ j. half_at s.now (2 * j)) }
 {
-    [
-        half_at(k, 0),
-        half_at(k, 2),
-        half_at(k, 4),
-        half_at(k, 6),
-        half_at(k, 8),
-        half_at(k, 10),
-        half_at(k, 12),
-        half_at(k, 14),
-    ]
-}
-
-// The four 16-bit parts of an IV.
-fn parts4(iv: &[u8]) -> [u16; 4]
-    requires { length iv.now ≡ 8 }
-    ensures { result ≡ parts4_of iv.now }
-{
-    [
-        half_at(iv, 0),
-        half_at(iv, 2),
-        half_at(iv, 4),
-        half_at(iv, 6),
-    ]
+    let mut p = [0u16; N];
+    for i in 0..N {
+        p[i] = half_at(s, 2 * i);
+    }
+    p
 }
 
 // X0..X7 of K0..K7.
@@ -104,10 +84,8 @@ fn modify(x: [u32; 8], c: [u32; 8], v: [u32; 4]) -> [u32; 8]
     ensures { result ≡ modified x c v }
 {
     let mut next = c;
-    let mut i: usize = 0;
-    while i < 8 {
+    for i in 0..8 {
         next[i] = c[i] ^ x[(i + 4) % 8] ^ v[i % 4];
-        i += 1;
     }
     next
 }
@@ -117,7 +95,7 @@ pub fn load(key: &[u8]) -> Rabbit
     requires { length key.now ≡ 16 }
     ensures { result ≡ loaded key.now }
 {
-    let k = parts8(key);
+    let k = parts::<8>(key);
     let x = arrange_x(k);
     let c = arrange_c(k);
     Rabbit { x, c, b: 0 }
@@ -130,7 +108,7 @@ pub fn add_iv(st: Rabbit, iv: &[u8]) -> Rabbit
 {
     let x = st.x;
     let old = st.c;
-    let c = modify(x, old, iv_words(parts4(iv)));
+    let c = modify(x, old, iv_words(parts::<4>(iv)));
     Rabbit { x, c, b: st.b }
 }
 

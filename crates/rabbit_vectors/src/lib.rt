@@ -6,22 +6,15 @@ ghost use Rattle.std.specs.Prelude.{◌<◌};
 
 use rabbit::Rabbit;
 use std::io::Stdout;
-use vectors_text::{cell, cells, end, heading, inputs, line, put, remark, time, unhex, unit_up};
+use vectors_text::{cell, cells, end, heading, inputs, line, put, remark, time, unhex, units};
 
-fn stream(stdout: Stdout, k: &[u8], v: &[u8], units: usize) {
+fn stream(stdout: Stdout, k: &[u8], v: &[u8], count: usize) {
     inputs(stdout, k, v);
     let mut key = [0u8; 16];
     let mut iv = [0u8; 8];
     unhex(k, &mut key);
     unhex(v, &mut iv);
-    let mut s = Rabbit::init(&key, &iv);
-    let mut i: usize = 0;
-    while i < units {
-        unit_up(stdout, s.output());
-        s = s.step();
-        i += 1;
-    }
-    end(stdout);
+    units(stdout, Rabbit::init(&key, &iv), count);
 }
 
 fn state(stdout: Stdout, s: Rabbit) {
@@ -40,8 +33,7 @@ fn state_at(stdout: Stdout, i: usize, s: Rabbit) {
     state(stdout, s);
     if 9 < i {
         put(stdout, b" output ");
-        unit_up(stdout, s.output());
-        end(stdout);
+        units(stdout, s, 1);
     }
 }
 
@@ -50,11 +42,9 @@ fn run(stdout: Stdout, from: Rabbit, i: usize, k: usize) -> Rabbit
     requires { (i < 16) × (k < 16) }
 {
     let mut s = from;
-    let mut j: usize = 0;
-    while j < k {
-        state_at(stdout, i + j, s);
+    for j in i..i + k {
+        state_at(stdout, j, s);
         s = s.step();
-        j += 1;
     }
     s
 }

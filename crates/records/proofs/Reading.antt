@@ -6,14 +6,18 @@ use Prim.Native.Nat.{ℕ, zero, suc, ◌+◌, ◌-◌, ◌*◌, ◌/◌, ◌%◌
 use native.Mathlib.Nat.{add_assoc, add-zero, not-suc-le-zero}
 use native.Mathlib.Numerals.{sub-one}
 use native.Mathlib.Omega.{arith}
-use lib.ListN.{length, get_or, length-append}
+use lib.ListN.{length, get_or, length-append, take, drop}
+use Rattle.std.proofs.Common.{map, get_or-take, get_or-drop, drop-drop, lit<}
+use Rattle.std.specs.Simd.{first_chunks}
+use Rattle.std.specs.Int.{w64, to_be_bytes}
 use lib.Pow.{split}
 use lib.Seq.{get_or-append-add}
 use Rattle.words.specs.Word.{word}
 use Rattle.words.specs.Strings.{word_at, bytes_of}
 use Rattle.words.proofs.Digits.{word_bytes}
-use Rattle.text.specs.Text.{Behind}
-use Rattle.records.specs.Records.{Use, record_of, records_of, use_at, uses_at, uses}
+use Rattle.text.specs.Text.{Written}
+use Rattle.text.specs.declared.Text.{Text}
+use Rattle.records.specs.Records.{Use, said, record_of, records_of, use_at, uses_at, uses}
 
 -- ---- the next of the records that are left
 
@@ -27,15 +31,68 @@ unfolding uses_at
 no-use s at zero h = refl
 no-use s at (suc n) h = absurd (not-suc-le-zero h)
 
+-- ---- a record by itself
+
+-- what the record from byte i on says is what its ten bytes say
+pub said-cut : (s : List ℕ) (i : ℕ) → said (take 10 (drop i s)) ≡ use_at s i
+unfolding use_at word_at
+said-cut s i = λ j. record {
+  line = (byte 0 (lit< tt) ∙ ap (λ (k : ℕ). get_or s k 0) (add-zero i)) j;
+  cipher = byte 1 (lit< tt) j;
+  bytes = word (byte 2 (lit< tt) j) (later 2 1 (lit< tt) j) (later 2 2 (lit< tt) j) (later 2 3 (lit< tt) j) * 2 ^ 32
+      + word (byte 6 (lit< tt) j) (later 6 1 (lit< tt) j) (later 6 2 (lit< tt) j) (later 6 3 (lit< tt) j);
+}
+  where
+    byte : (k : ℕ) → k < 10 → get_or (take 10 (drop i s)) k 0 ≡ get_or s (i + k) 0
+    byte k h = get_or-take 10 (drop i s) k 0 h ∙ get_or-drop i s k 0
+
+    later : (k l : ℕ) → k + l < 10 → get_or (take 10 (drop i s)) (k + l) 0 ≡ get_or s (i + k + l) 0
+    later k l h = byte (k + l) h ∙ ap (λ (n : ℕ). get_or s n 0) (sym (add_assoc i k l))
+
+pub said-each : (s : List ℕ) (n i : ℕ) → map said (first_chunks 10 n (drop i s)) ≡ uses_at n s i
+unfolding uses_at
+said-each s zero i = refl
+said-each s (suc n) i =
+    ap₂ ◌∷◌ (said-cut s i) (ap (λ (l : List ℕ). map said (first_chunks 10 n l)) (drop-drop 10 i s) ∙ said-each s n (i + 10))
+
 -- ---- what was written
 
--- a record by the bytes of its two words
-pub record-put : (line cipher bytes : ℕ) {h l before out : List ℕ} {at r : ℕ} → h ≡ bytes_of (bytes / 2 ^ 32) → l ≡ bytes_of (bytes % 2 ^ 32) →
-    Behind (line ∷ cipher ∷ get_or h 0 0 ∷ get_or h 1 0 ∷ get_or h 2 0 ∷ get_or h 3 0 ∷ get_or l 0 0 ∷ get_or l 1 0 ∷ get_or l 2 0 ∷ get_or l 3 0 ∷ []) at before out r → Behind (record_of line cipher bytes) at before out r
+-- the bytes of a number of 64 bits are those of its two words
+word_pair : (n : ℕ) → to_be_bytes w64 n ≡ bytes_of (n / 2 ^ 32) ++ bytes_of (n % 2 ^ 32)
+unfolding bytes_of
+word_pair n = λ i. b7 i ∷ b6 i ∷ b5 i ∷ b4 i ∷ b3' i ∷ b2' i ∷ b1' i ∷ b0' i ∷ []
+  where
+    b7 : n / 256 ^ 7 % 256 ≡ n / 2 ^ 32 / 2 ^ 24 % 2 ^ 8
+    b7 = omega arith
+
+    b6 : n / 256 ^ 6 % 256 ≡ n / 2 ^ 32 / 2 ^ 16 % 2 ^ 8
+    b6 = omega arith
+
+    b5 : n / 256 ^ 5 % 256 ≡ n / 2 ^ 32 / 2 ^ 8 % 2 ^ 8
+    b5 = omega arith
+
+    b4 : n / 256 ^ 4 % 256 ≡ n / 2 ^ 32 % 2 ^ 8
+    b4 = omega arith
+
+    b3' : n / 256 ^ 3 % 256 ≡ n % 2 ^ 32 / 2 ^ 24 % 2 ^ 8
+    b3' = omega arith
+
+    b2' : n / 256 ^ 2 % 256 ≡ n % 2 ^ 32 / 2 ^ 16 % 2 ^ 8
+    b2' = omega arith
+
+    b1' : n / 256 ^ 1 % 256 ≡ n % 2 ^ 32 / 2 ^ 8 % 2 ^ 8
+    b1' = omega arith
+
+    b0' : n % 256 ≡ n % 2 ^ 32 % 2 ^ 8
+    b0' = omega arith
+
+-- a record by the bytes of its number
+pub record-put : (line cipher bytes : ℕ) {n : List ℕ} {a b : Text} → n ≡ to_be_bytes w64 bytes →
+    Written (line ∷ cipher ∷ get_or n 0 0 ∷ get_or n 1 0 ∷ get_or n 2 0 ∷ get_or n 3 0 ∷ get_or n 4 0 ∷ get_or n 5 0 ∷ get_or n 6 0 ∷ get_or n 7 0 ∷ []) a b → Written (record_of line cipher bytes) a b
 unfolding record_of bytes_of
-record-put line cipher bytes {before = before} {out} {at} {r} e f b =
-    subst (λ (p : List ℕ). Behind p at before out r)
-    (ap₂ (λ (h l : List ℕ). line ∷ cipher ∷ get_or h 0 0 ∷ get_or h 1 0 ∷ get_or h 2 0 ∷ get_or h 3 0 ∷ get_or l 0 0 ∷ get_or l 1 0 ∷ get_or l 2 0 ∷ get_or l 3 0 ∷ []) e f) b
+record-put line cipher bytes {a = a} {b} e w =
+    subst (λ (p : List ℕ). Written p a b)
+    (ap (λ (n : List ℕ). line ∷ cipher ∷ get_or n 0 0 ∷ get_or n 1 0 ∷ get_or n 2 0 ∷ get_or n 3 0 ∷ get_or n 4 0 ∷ get_or n 5 0 ∷ get_or n 6 0 ∷ get_or n 7 0 ∷ []) (e ∙ word_pair bytes)) w
 
 pub record-length : (line cipher bytes : ℕ) → length (record_of line cipher bytes) ≡ 10
 unfolding record_of bytes_of

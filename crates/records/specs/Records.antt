@@ -26,6 +26,10 @@ records_of (u ∷ us) = record_of u.line u.cipher u.bytes ++ records_of us
 unfoldable pub use_at : List ℕ → ℕ → Use
 use_at s i = record { line = get_or s i 0; cipher = get_or s (i + 1) 0; bytes = word_at s (i + 2) * 2 ^ 32 + word_at s (i + 6) }
 
+-- what a record says
+abbrev pub said : List ℕ → Use
+said r = use_at r 0
+
 -- what n records from byte i on say
 unfoldable pub uses_at : ℕ → List ℕ → ℕ → List Use
 uses_at zero s i = []

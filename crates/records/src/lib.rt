@@ -1,31 +1,38 @@
 // The record of an accepted crypt, ten bytes: its line, its cipher, and in eight bytes, most significant first, how many bytes it enciphered.
-// The caller must ensure that the record lies within the buffer.
+// The caller must ensure that the buffer has room for a record that is put.
 #![tactic(auto)]
 
-ghost use Rattle.std.specs.Prelude.{◌≡◌, ◌+◌, ◌≤◌, length};
-ghost use Rattle.text.specs.Text.{Behind};
-ghost use Rattle.records.specs.Records.{record_of, use_at};
+ghost use Rattle.std.specs.Prelude.{◌≡◌, map};
+ghost use Rattle.text.specs.Text.{Room, Written};
+ghost use Rattle.records.specs.Records.{record_of, said, uses};
+
+use text::Text;
 
 // The bytes of a record.
 pub const RECORD: usize = 10;
 
-// A record goes behind the first at bytes of out. Returns where it ends.
-pub fn put(line: u8, cipher: u8, count: u64, at: usize, out: &mut [u8]) -> usize
-    requires { at + 10 ≤ length out.old }
-    ensures { Behind (record_of line cipher count) at out.old out.new result }
+// A record goes behind those before it.
+pub fn put(line: u8, cipher: u8, count: u64, records: &mut Text)
+    requires { Room 10 records.old }
+    ensures { Written (record_of line cipher count) records.old records.new }
 {
-    let h = words::bytes((count / 4294967296) as u32);
-    let l = words::bytes((count % 4294967296) as u32);
-    let record = [line, cipher, h[0], h[1], h[2], h[3], l[0], l[1], l[2], l[3]];
-    text::put(&record, at, out)
+    let n = count.to_be_bytes();
+    let record = [line, cipher, n[0], n[1], n[2], n[3], n[4], n[5], n[6], n[7]];
+    records.put(&record);
 }
 
-// How many bytes the record from byte at on says were enciphered.
-pub fn bytes_at(s: &[u8], at: usize) -> u64
-    requires { at + 10 ≤ length s.now }
-    ensures { result ≡ (use_at s.now at).bytes }
+// All records of s; bytes behind the last whole one are of none.
+pub fn all(s: &[u8]) -> &[[u8; RECORD]]
+    ensures { map said result.now ≡ uses s.now }
 {
-    let high = words::word_at(s, at + 2) as u64;
-    let low = words::word_at(s, at + 6) as u64;
-    high * 4294967296 + low
+    let (records, _) = s.as_chunks::<RECORD>();
+    records
+}
+
+// How many bytes a record says were enciphered.
+pub fn bytes_of(record: &[u8; RECORD]) -> u64
+    ensures { result ≡ (said record.now).bytes }
+{
+    let [_, _, a, b, c, d, e, f, g, h] = *record;
+    u64::from_be_bytes([a, b, c, d, e, f, g, h])
 }

@@ -36,6 +36,10 @@ pub putting-none : {test : ℕ → Use → Bool} {first count : ℕ} {us : List 
     Putting test first count us at before before at first count
 putting-none h = record { room = h; values = refl; most = omega arith; gathered = gather_none (omega arith) }
 
+pub putting-as : {test : ℕ → Use → Bool} {first count : ℕ} {us : List Use} {at₀ : ℕ} {before out : List ℕ} {at v left left' : ℕ} → left ≡ left' →
+    Putting test first count us at₀ before out at v left → Putting test first count us at₀ before out at v left'
+putting-as {test} {first} {count} {us} {at₀} {before} {out} {at} {v} e p = subst (λ (k : ℕ). Putting test first count us at₀ before out at v k) e p
+
 module _ {test : ℕ → Use → Bool} {first count : ℕ} {us : List Use} {at₀ : ℕ} {before mid : List ℕ} {at v left : ℕ} (p : Putting test first count us at₀ before mid at v left) where
   pub putting-same : length mid ≡ length before
   putting-same = behind-length p.gathered.behind

@@ -6,7 +6,7 @@ use Rattle.card_sizes.specs.Sizes.{line_count}
 use Rattle.command.specs.Rows.{code_of}
 use Rattle.text.specs.Text.{figure, newline}
 use Rattle.records.specs.Records.{Use, uses}
-use Rattle.traffic.specs.Traffic.{sum_of, on_line, by_cipher, every, sheet_rows}
+use Rattle.traffic.specs.Traffic.{sum_of, on_line, by_cipher, every, sheet_rows, code_given}
 use Rattle.report.specs.declared.Reported.{Reported}
 
 -- the ciphers in force, from 1 on
@@ -28,6 +28,6 @@ report_of s = let code = code_of (sheet_rows s) in pick (eqb code 0) (sheet_of (
 
 -- what a report leaves in out, whole: what is behind the text stays
 pub record ReportLeaves (s out out' : List ℕ) (r : Reported) : Type 0 where
-  pub code_is : r.code ≡ code_of (sheet_rows s)
+  pub code_is : code_given r.judged ≡ code_of (sheet_rows s)
   pub written_is : r.written ≡ length (report_of s)
   pub out-is : out' ≡ report_of s ++ drop r.written out

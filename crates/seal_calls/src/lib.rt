@@ -2,57 +2,52 @@
 // Nothing is asked of the caller: any cipher, lengths and buffers get an answer.
 #![tactic(auto)]
 
-ghost use Rattle.std.specs.Prelude.{◌≡◌, length};
-ghost use Rattle.card_sizes.specs.Sizes.{key_length, iv_length};
-ghost use Rattle.seal_calls.specs.Seals.{arrays_ok, redundancy_length, SealPromise, UnsealPromise};
+ghost use Rattle.std.specs.Prelude.{◌≡◌, true, false, [], ◌∷◌, length, MatchOption};
+ghost use Rattle.command.specs.Decode.{refusal_of};
+ghost use Rattle.sealing_rules.specs.Answer.{written_of};
+ghost use Rattle.seal_calls.specs.Seals.{arrays_ok, SealPromise, UnsealPromise};
 
 use card_sizes::{IV, KEY};
+use command::Refusal;
 use sealing_rules::REDUNDANCY;
 
-// Whether key, IV, redundancy and the array of the bytes written have their lengths.
-fn arrays_ok(key: usize, iv: usize, redundancy: usize, written: usize) -> bool
-    ensures { result ≡ arrays_ok key iv redundancy written }
+// The code of an answer, whose count of bytes written is stored.
+fn stored(answer: Result<usize, Refusal>, written: &mut [usize]) -> u8
+    requires { length written.old ≡ 1 }
+    ensures code { result ≡ refusal_of answer }
+    ensures count { written.new ≡ written_of answer ∷ [] }
 {
-    if key != KEY {
-        return false;
+    match answer {
+        Ok(n) => {
+            written[0] = n;
+            0
+        }
+        Err(e) => {
+            written[0] = 0;
+            e.number()
+        }
     }
-    if iv != IV {
-        return false;
-    }
-    if redundancy != REDUNDANCY {
-        return false;
-    }
-    written == 1
 }
 
-// A key as an array.
-fn key_array(s: &[u8]) -> [u8; KEY]
-    requires { length s.now ≡ key_length }
-    ensures { result ≡ s.now }
+// Key, IV and redundancy as arrays; none where one of them has not its length, or the array of the bytes written.
+fn arrays<'a>(
+    key: &'a [u8],
+    iv: &'a [u8],
+    redundancy: &'a [u8],
+    written: &[usize],
+) -> Option<(&'a [u8; KEY], &'a [u8; IV], &'a [u8; REDUNDANCY])>
+    ensures { MatchOption result (arrays_ok (length key.now) (length iv.now) (length redundancy.now) (length written.now) ≡ false)
+        (λ a. (arrays_ok (length key.now) (length iv.now) (length redundancy.now) (length written.now) ≡ true)
+        × (a.0.now ≡ key.now) × (a.1.now ≡ iv.now) × (a.2.now ≡ redundancy.now)) }
 {
-    let mut a = [0u8; KEY];
-    buffer::put(s, &mut a);
-    a
-}
-
-// An IV as an array.
-fn iv_array(s: &[u8]) -> [u8; IV]
-    requires { length s.now ≡ iv_length }
-    ensures { result ≡ s.now }
-{
-    let mut a = [0u8; IV];
-    buffer::put(s, &mut a);
-    a
-}
-
-// A redundancy as an array.
-fn redundancy_array(s: &[u8]) -> [u8; REDUNDANCY]
-    requires { length s.now ≡ redundancy_length }
-    ensures { result ≡ s.now }
-{
-    let mut a = [0u8; REDUNDANCY];
-    buffer::put(s, &mut a);
-    a
+    if written.len() != 1 {
+        return None;
+    }
+    Some((
+        key.try_into().ok()?,
+        iv.try_into().ok()?,
+        redundancy.try_into().ok()?,
+    ))
 }
 
 // A message sealed. Returns the code; 255 where an array has not its length, and then nothing is changed.
@@ -68,16 +63,13 @@ pub fn seal(
     ensures { SealPromise cipher key.now iv.now redundancy.now message.now out.old
         written.old result out.new written.new }
 {
-    let ok = arrays_ok(key.len(), iv.len(), redundancy.len(), written.len());
-    if !ok {
+    let Some((key, iv, redundancy)) = arrays(key, iv, redundancy, written) else {
         return 255;
-    }
-    let k = key_array(key);
-    let v = iv_array(iv);
-    let r = redundancy_array(redundancy);
-    let s = sealing::seal(cipher, &k, &v, &r, message, out);
-    written[0] = s.written;
-    s.code
+    };
+    stored(
+        sealing::seal(cipher, key, iv, redundancy, message, out),
+        written,
+    )
 }
 
 // A sealed message opened. Returns the code; 255 where an array has not its length, and then nothing is changed.
@@ -93,14 +85,11 @@ pub fn unseal(
     ensures { UnsealPromise cipher key.now iv.now redundancy.now sealed.now out.old
         written.old result out.new written.new }
 {
-    let ok = arrays_ok(key.len(), iv.len(), redundancy.len(), written.len());
-    if !ok {
+    let Some((key, iv, redundancy)) = arrays(key, iv, redundancy, written) else {
         return 255;
-    }
-    let k = key_array(key);
-    let v = iv_array(iv);
-    let r = redundancy_array(redundancy);
-    let s = sealing::open(cipher, &k, &v, &r, sealed, out);
-    written[0] = s.written;
-    s.code
+    };
+    stored(
+        sealing::open(cipher, key, iv, redundancy, sealed, out),
+        written,
+    )
 }

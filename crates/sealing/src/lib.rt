@@ -10,14 +10,13 @@ ghost use Rattle.sealing_rules.specs.Answer.{Answered};
 ghost use Rattle.sealing_steps.specs.Steps.{Sized, Openable};
 
 use card_sizes::{IV, KEY};
-use command::Cipher;
+use command::{Cipher, Refusal};
 use multi_s01::{chain, is_genuine};
 use sealing_rules::{
-    ADDED, Admitted, MESSAGE, REDUNDANCY, Sealed, admit, message_length, message_ok, refused,
-    release, sealed_ok,
+    ADDED, MESSAGE, REDUNDANCY, admit, message_length, message_ok, release, sealed_ok,
 };
-use sealing_steps::{recover, start, sums};
-use sealing_stream::{TRIES, first};
+use sealing_steps::{recover, sums};
+use sealing_stream::Walk;
 
 // The longest sealed message.
 const SEALED: usize = MESSAGE + ADDED;
@@ -30,29 +29,23 @@ fn seal_with(
     redundancy: &[u8],
     message: &[u8],
     out: &mut [u8],
-) -> Sealed
+) -> Result<usize, Refusal>
     requires key_len { (length key.now ≡ key_length) × (length iv.now ≡ iv_length) }
     requires sized { Sized redundancy.now message.now (length out.old) }
     ensures { Answered (seal_by (key_blocks (number_of c) key.now iv.now) redundancy.now message.now)
         out.old result out.new }
 {
-    let mut w = start(c, key, iv);
-    let found = first(c, &mut w);
-    let t = found.t;
-    let a = found.a;
-    if t == TRIES {
-        return refused(24);
-    }
-    sums(c, &mut w, t, redundancy, message, out);
+    let mut walk = Walk::start(c, key, iv);
+    let Some(found) = walk.first() else {
+        return Err(Refusal::NotGenuine);
+    };
+    sums(&mut walk, redundancy, message, out);
     let count = message.len() / 8 + 2;
-    chain(a, count, out);
-    Sealed {
-        code: 0,
-        written: 8 * count,
-    }
+    chain(found.a, count, out);
+    Ok(8 * count)
 }
 
-// A message sealed: its blocks, padding and redundancy go to the start of out.
+// A message sealed: its blocks, padding and redundancy go to the start of out, and how many bytes they are is returned.
 pub fn seal(
     cipher: u8,
     key: &[u8; KEY],
@@ -60,15 +53,13 @@ pub fn seal(
     redundancy: &[u8; REDUNDANCY],
     message: &[u8],
     out: &mut [u8],
-) -> Sealed
+) -> Result<usize, Refusal>
     ensures { Answered (seal_of cipher key.now iv.now redundancy.now message.now (length out.old))
         out.old result out.new }
 {
     let n = message.len();
-    match admit(message_ok(n), cipher, key, iv, n + ADDED, out.len()) {
-        Admitted::Run(c) => seal_with(c, key, iv, redundancy, message, out),
-        Admitted::Refused(code) => refused(code),
-    }
+    let c = admit(message_ok(n), cipher, key, iv, n + ADDED, out.len())?;
+    seal_with(c, key, iv, redundancy, message, out)
 }
 
 // An opening, past the checks. The message is kept until its padding and redundancy are tested.
@@ -79,27 +70,24 @@ fn open_with(
     redundancy: &[u8],
     sealed: &[u8],
     out: &mut [u8],
-) -> Sealed
+) -> Result<usize, Refusal>
     requires key_len { (length key.now ≡ key_length) × (length iv.now ≡ iv_length) }
     requires openable { Openable redundancy.now sealed.now (length out.old) }
     ensures { Answered (open_by (key_blocks (number_of c) key.now iv.now) redundancy.now sealed.now)
         out.old result out.new }
 {
-    let mut w = start(c, key, iv);
-    let found = first(c, &mut w);
-    let t = found.t;
-    let a = found.a;
-    if t == TRIES {
-        return refused(24);
-    }
+    let mut walk = Walk::start(c, key, iv);
+    let Some(found) = walk.first() else {
+        return Err(Refusal::NotGenuine);
+    };
     let mut held = [0u8; SEALED];
-    let last = recover(c, &mut w, t, a, sealed, &mut held);
+    let last = recover(&mut walk, found.a, sealed, &mut held);
     let n = sealed.len() - ADDED;
     let genuine = is_genuine(&held, n, last, redundancy);
     release(genuine, &held[..n], out)
 }
 
-// A sealed message opened: the message goes to the start of out.
+// A sealed message opened: the message goes to the start of out, and how many bytes it has is returned.
 pub fn open(
     cipher: u8,
     key: &[u8; KEY],
@@ -107,13 +95,11 @@ pub fn open(
     redundancy: &[u8; REDUNDANCY],
     sealed: &[u8],
     out: &mut [u8],
-) -> Sealed
+) -> Result<usize, Refusal>
     ensures { Answered (unseal_of cipher key.now iv.now redundancy.now sealed.now (length out.old))
         out.old result out.new }
 {
     let n = sealed.len();
-    match admit(sealed_ok(n), cipher, key, iv, message_length(n), out.len()) {
-        Admitted::Run(c) => open_with(c, key, iv, redundancy, sealed, out),
-        Admitted::Refused(code) => refused(code),
-    }
+    let c = admit(sealed_ok(n), cipher, key, iv, message_length(n), out.len())?;
+    open_with(c, key, iv, redundancy, sealed, out)
 }

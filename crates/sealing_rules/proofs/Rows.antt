@@ -96,6 +96,10 @@ module _ (ok : Bool) (c : ℕ) (key iv : List ℕ) (need room : ℕ) where
   unfolding check_of
   check-unknown h e = row_next 23 _ (ap not h) ∙ row-given 4 _ (ap not e)
 
+-- where the length is right and the byte is a cipher's number
+pub check-known : (key iv : List ℕ) (need room : ℕ) {ok : Bool} {b n : ℕ} → ok ≡ true → b ≡ n → check_of ok b key iv need room ≡ check_of true n key iv need room
+check-known key iv need room p q = λ j. check_of (p j) (q j) key iv need room
+
 -- ---- key, IV and room, in the code's order
 
 module _ (c : Cipher) (key iv : List ℕ) (need room : ℕ) {k : ℕ} (e : k ≡ key_code (number_of c) key iv) where

@@ -28,10 +28,11 @@ use Rattle.multi_s01.proofs.Multi.{recovered-length, padded-blocks}
 use Rattle.multi_s01.proofs.Chains.{at, seal-chain, open-chain, recovered-blocks, chained_same, back-same, summed-append, summed-tab, summed-length, summed-blocks, block_in, spelled-take}
 use Rattle.sealing_rules.specs.Sealing.{stream_bytes, blocks_from, sealed_with, genuine_with, message_with}
 use Rattle.sealing_rules.proofs.Streams.{stream-bytes, stream-blocks}
+use Rattle.sealing_stream.specs.declared.Walk.{Walk}
 use Rattle.sealing_stream.specs.Walk.{At, Crypted}
 
 -- the same place
-pub at_same : {c : ℕ} {s w : List ℕ} {n m : ℕ} → n ≡ m → At c s n w → At c s m w
+pub at_same : {c : ℕ} {s : List ℕ} {w : Walk} {n m : ℕ} → n ≡ m → At c s n w → At c s m w
 at_same {c} {s} {w} e a = subst (λ (k : ℕ). At c s k w) e a
 
 -- ---- the text crypted
@@ -96,7 +97,7 @@ module _ (c t : ℕ) (s : List ℕ) where
         ∙ ap spelled (sym (summed-append z' l (z' (length l + 2) ∷ block_at r 0 ∷ [])))
 
     -- put one after the other
-    pub sums-put : {i a b : ℕ} {out w' o1 y1 y2 : List ℕ} → length m + 16 ≤ length out → i ≡ t + 1 + length m / 8
+    pub sums-put : {i a b : ℕ} {out : List ℕ} {w' : Walk} {o1 y1 y2 : List ℕ} → length m + 16 ≤ length out → i ≡ t + 1 + length m / 8
         → a ≡ blocks_from c s (i + 2) ⊕ blocks_from c s i → b ≡ block_at r 0 ⊕ blocks_from c s (i + 1) → Crypted c s (8 * (t + 1)) m out w' o1
         → y1 ≡ spell a ++ drop 8 (take (length o1 - length m) (drop (length m) o1))
         → y2 ≡ spell b ++ drop 8 (take (length (put_mid (length m) (length o1 - length m) o1 y1) - (length m + 8)) (drop (length m + 8) (put_mid (length m) (length o1 - length m) o1 y1)))
@@ -147,7 +148,7 @@ module _ (c t : ℕ) (s : List ℕ) where
   cancel : (a b d : ℕ) → (a ⊕ b) ⊕ (a ⊕ d) ≡ d ⊕ b
   cancel a b d = xor-swap a b a d ∙ ap (λ (x : ℕ). x ⊕ (b ⊕ d)) (xor_self a) ∙ xor_comm b d
 
-  pub recovered-put : (a : ℕ) (x held : List ℕ) {I v : ℕ} {w' h1 h2 : List ℕ} → All Byte x → length x % 8 ≡ 0 → v ≡ length x / 8 → I ≡ reciprocal a
+  pub recovered-put : (a : ℕ) (x held : List ℕ) {I v : ℕ} {w' : Walk} {h1 h2 : List ℕ} → All Byte x → length x % 8 ≡ 0 → v ≡ length x / 8 → I ≡ reciprocal a
       → Crypted c s (8 * (t + 1)) x held w' h1 → h2 ≡ spelled (tab v (unchained I x h1)) ++ drop (8 * v) h1
       → h2 ≡ spelled (recovered a (after (blocks_from c s) t) (blocks_of x)) ++ drop (length x) held
   recovered-put a x held {I} {v} {w'} {h1} {h2} hx whole ev ei d e =

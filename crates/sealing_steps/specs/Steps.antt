@@ -1,10 +1,7 @@
--- What the steps of the pair leave, each of its own part of 6.2.3, for the keystream of any S(0) on which the words that are lent stand.
+-- What the steps of the pair leave, each of its own part of 6.2.3, for the keystream of any S(0) along which the walk goes.
 -- Assumes nothing.
 use Rattle.std.specs.Prelude.{◌≡◌, List, ◌++◌, ℕ, ◌+◌, ◌/◌, ◌%◌, ◌≤◌, length, drop}
 use Rattle.words.specs.Word.{◌⊕◌}
-use Rattle.ciphers.specs.Table.{cipher_at}
-use Rattle.ciphers.specs.Fit.{Fit}
-use Rattle.machine.specs.Machine.{stream_of}
 use Rattle.blocks.specs.Blocks.{block_at, blocks_of, spelled}
 use Rattle.multi_s01.specs.Stream.{after}
 use Rattle.multi_s01.specs.Multi.{padded, recovered}
@@ -30,11 +27,6 @@ pub record Holdable (x held : List ℕ) : Type 0 where
   pub most : length x ≤ 16400
   pub whole : length x % 8 ≡ 0
   pub fits : length x ≤ length held
-
--- the words of S(0)
-pub record Starts (c : ℕ) (key iv w : List ℕ) : Type 0 where
-  pub is : w ≡ stream_of c key iv
-  pub fit : Fit (cipher_at c) w
 
 -- W_u and W_(u+1), where i is t + u + 1
 pub record Ends (z : ℕ → ℕ) (i : ℕ) (r : List ℕ) (p q : ℕ) : Type 0 where

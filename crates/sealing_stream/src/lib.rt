@@ -1,63 +1,87 @@
-// The keystream of any cipher in blocks of 64 bits, one after the other, with the cipher's state in words, and the first block that is not 0.
-// The caller must ensure words that are a state of the cipher, and a buffer as long as the text.
+// A walk along the keystream of any cipher, from its start on: a text crypted, the next block of 64 bits, and the first block that is not 0.
+// The caller must ensure the lengths of key and IV, and a buffer as long as the text.
 #![tactic(auto)]
 
-ghost use Rattle.std.specs.Prelude.{◌*◌, ◌≤◌, length};
+ghost use Rattle.std.specs.Prelude.{◌≡◌, ◌<◌, ◌≤◌, length};
 ghost use Rattle.command.specs.Decode.{number_of};
+ghost use Rattle.card_sizes.specs.Sizes.{key_length, iv_length};
 ghost use Rattle.ciphers.specs.Table.{cipher_at};
 ghost use Rattle.ciphers.specs.Fit.{Fit};
-ghost use Rattle.sealing_stream.specs.Walk.{CryptsOn, ReadsNext, Finds};
+ghost use Rattle.machine.specs.Machine.{stream_of};
 
 use blocks::block_at;
-use ciphers::unit_of;
+use card_sizes::STATE;
+use ciphers::{key_of, unit_of};
 use command::Cipher;
+use dispatch::{crypt, first_state};
 
 // How many blocks are tried for the first that is not 0.
 pub const TRIES: usize = 4096;
 
-// The first block that is not 0, and its index, which is TRIES where there is none.
+// The first block that is not 0, and its index.
 #[derive(Clone, Copy)]
 pub struct Found {
     pub t: usize,
     pub a: u64,
 }
 
-// The text goes to the start of out, XORed with the keystream from its byte n on, where w stands; w then stands behind it.
-pub fn crypt_on(c: Cipher, w: &mut [u32], n: usize, text: &[u8], out: &mut [u8])
-    requires fit { Fit (cipher_at (number_of c)) w.old }
-    requires text_in_bounds { length text.now ≤ length out.old }
-    ensures { CryptsOn (number_of c) n w.old text.now out.old w.new out.new }
-{
-    let unit = unit_of(c);
-    let skip = n % unit;
-    dispatch::crypt(c, w, skip, text, out);
+// A place in the keystream of a cipher: the state of a unit, and how many of the unit's bytes lie before the place.
+#[derive(Drop)]
+pub struct Walk {
+    pub cipher: Cipher,
+    pub words: [u32; STATE],
+    pub skip: usize,
+    pub ghost fit: { ∥ Fit (cipher_at (number_of cipher)) words ∥₁ },
+    pub ghost within: { skip < (cipher_at (number_of cipher)).gen.unit },
 }
 
-// Block i of the keystream, where w stands; w then stands behind it.
-pub fn next_block(c: Cipher, w: &mut [u32], i: usize) -> u64
-    requires fit { Fit (cipher_at (number_of c)) w.old }
-    requires i_bound { i ≤ 65536 }
-    ensures { ReadsNext (number_of c) i w.old result w.new }
-{
-    let zeros = [0u8; 8];
-    let mut z = [0u8; 8];
-    let n = 8 * i;
-    crypt_on(c, w, n, &zeros, &mut z);
-    block_at(&z, 0)
-}
+impl Walk {
+    ghost use Rattle.sealing_stream.specs.Walk.{At, CryptsOn, ReadsNext, Finds};
 
-// The first block that is not 0 of the keystream whose start w holds; w then stands behind it.
-pub fn first(c: Cipher, w: &mut [u32]) -> Found
-    requires { Fit (cipher_at (number_of c)) w.old }
-    ensures { Finds (number_of c) w.old result.t result.a w.new }
-{
-    let mut i: usize = 0;
-    while i < TRIES {
-        let x = next_block(c, w, i);
-        if x != 0 {
-            return Found { t: i, a: x };
+    // The start of the keystream of S(0), which is that of the cipher's own bytes of key and IV.
+    pub fn start(cipher: Cipher, key: &[u8], iv: &[u8]) -> Walk
+        requires { (length key.now ≡ key_length) × (length iv.now ≡ iv_length) }
+        ensures { At (number_of cipher) (stream_of (number_of cipher) key.now iv.now) 0 result }
+    {
+        let k = key_of(cipher);
+        let words = first_state(cipher, &key[..k], iv);
+        Walk {
+            cipher,
+            words,
+            skip: 0,
         }
-        i += 1;
     }
-    Found { t: TRIES, a: 0 }
+
+    // The text goes to the start of out, XORed with the keystream; the walk then stands behind it.
+    pub fn crypt_on(&mut self, text: &[u8], out: &mut [u8])
+        requires { length text.now ≤ length out.old }
+        ensures { CryptsOn self.old text.now out.old self.new out.new }
+    {
+        let unit = unit_of(self.cipher);
+        crypt(self.cipher, &mut self.words, self.skip, text, out);
+        self.skip = (self.skip + text.len() % unit) % unit;
+    }
+
+    // The next eight bytes of the keystream as a block; the walk then stands behind them.
+    pub fn next_block(&mut self) -> u64
+        ensures { ReadsNext self.old result self.new }
+    {
+        let zeros = [0u8; 8];
+        let mut z = [0u8; 8];
+        self.crypt_on(&zeros, &mut z);
+        block_at(&z, 0)
+    }
+
+    // The first block that is not 0, from the start of a keystream on; the walk then stands behind it. None where the first TRIES blocks are 0.
+    pub fn first(&mut self) -> Option<Found>
+        ensures { Finds self.old result self.new }
+    {
+        for t in 0..TRIES {
+            let a = self.next_block();
+            if a != 0 {
+                return Some(Found { t, a });
+            }
+        }
+        None
+    }
 }

@@ -3,7 +3,8 @@
 #![tactic(auto)]
 
 use blocks::block_at;
-use command::CipherRead;
+use command::Cipher;
+use sealing_stream::Walk;
 use std::io::Stdout;
 use vectors_text::{block, end, heading, line, listing, put, unhex};
 
@@ -15,11 +16,13 @@ fn given(stdout: Stdout, name: &[u8], digits: &[u8]) {
 
 // The multiplier and its place.
 fn multiplier(stdout: Stdout, cipher: u8, key: &[u8; 32], iv: &[u8; 16]) {
-    let CipherRead::Is(c) = command::read_cipher(cipher) else {
+    let Ok(c) = Cipher::try_from(cipher) else {
         return;
     };
-    let mut w = sealing_steps::start(c, key, iv);
-    let found = sealing_stream::first(c, &mut w);
+    let mut walk = Walk::start(c, key, iv);
+    let Some(found) = walk.first() else {
+        return;
+    };
     listing(stdout, b"t          ", found.t);
     put(stdout, b"multiplier ");
     block(stdout, found.a);
@@ -61,7 +64,7 @@ fn example(stdout: Stdout, name: &[u8], cipher: u8, k: &[u8], v: &[u8]) {
         &mut message,
     );
     multiplier(stdout, cipher, &key, &iv);
-    sealing::seal(cipher, &key, &iv, &redundancy, &message, &mut out);
+    let _ = sealing::seal(cipher, &key, &iv, &redundancy, &message, &mut out);
     sealed(stdout, &out);
 }
 

@@ -2,12 +2,15 @@
 // buffer, the table of calls written to another, and the records of the crypts to a third.
 #![tactic(auto)]
 
-ghost use Rattle.std.specs.Prelude.{◌≡◌, take};
+ghost use Rattle.std.specs.Prelude.{◌≡◌, ◌+◌, ◌≤◌, length, take};
+ghost use Rattle.text.specs.Text.{Behind};
+ghost use Rattle.session_table.specs.Table.{columns, end_of};
 ghost use Rattle.session.specs.Session.{read_length};
 ghost use Rattle.session.specs.Progress.{start_of, Sizes, Finished, RunPromise};
 
 use session_call::{Progress, turn};
 use session_table::{accepted_of, put_columns, put_end};
+use text::Text;
 
 // Only so many bytes of each file are read.
 pub const READ: usize = 16384;
@@ -66,12 +69,31 @@ fn run_calls<'a>(
     p
 }
 
+// The column names go to the start of table. Returns where they end.
+fn begin(table: &mut [u8]) -> usize
+    requires { 23 ≤ length table.old }
+    ensures { Behind columns 0 table.old table.new result }
+{
+    let mut text = Text::new(table, 0);
+    put_columns(&mut text);
+    text.len()
+}
+
+// The last line of the table goes behind the first at bytes of table. Returns where it ends.
+fn finish(accepted: usize, code: u8, at: usize, table: &mut [u8]) -> usize
+    requires { at + 46 ≤ length table.old }
+    ensures { Behind (end_of accepted code) at table.old table.new result }
+{
+    let mut text = Text::new(table, at);
+    put_end(accepted, code, &mut text);
+    text.len()
+}
+
 // The first bytes of a file, as many as are read.
 fn first(s: &[u8]) -> &[u8]
     ensures { result.now ≡ take read_length s.now }
 {
-    let n = s.len();
-    let e = writer::least(n, READ);
+    let e = s.len().min(READ);
     &s[..e]
 }
 
@@ -91,13 +113,13 @@ pub fn run<'a>(
     let c = first(commands);
     let t = first(tray);
     let d = first(data);
-    put_columns(table);
+    begin(table);
     let p = run_calls(c, t, d, out, table, records);
     let calls = p.calls;
     let code = p.code;
     let at = p.table;
     let accepted = accepted_of(calls, code);
-    let printed = put_end(accepted, code, at, table);
+    let printed = finish(accepted, code, at, table);
     Ended {
         written: p.out,
         printed,

@@ -14,9 +14,9 @@ use borrow.Author.Tests.{eq-eqb, ne_eqb, eqb-true}
 use Rattle.words.specs.Tests.{both, pick}
 use Rattle.command.specs.declared.Command.{Command}
 use Rattle.command.specs.declared.Command.TheVariants.{Tray, Own, Crypt, Park, Resume, Close, Change, Load, Start}
-use Rattle.command.specs.declared.Decoded.{Decoded}
-use Rattle.command.specs.declared.Decoded.TheVariants.{Run, Refused}
-use Rattle.command.specs.Decode.{decode_of}
+use Rattle.command.specs.declared.Refusal.{Refusal}
+use Rattle.std.specs.Prelude.{Result, Ok, Err}
+use Rattle.command.specs.Decode.{decode_of, refusal_number}
 use Rattle.command.proofs.Reading.{ReadIn, refused-in, run_in, Has, read-in}
 use Rattle.machine.specs.Machine.{Machine, Call, Seen, public, of_decoded, decide, perform, step, back, card_step}
 use Rattle.machine.specs.Calls.{Made, made_of, line_on}
@@ -32,25 +32,25 @@ use Rattle.session_call.proofs.Bounds.{bounded}
 
 record Read (s : List ℕ) : Type 0 where
   pub command : Command
-  pub is : decode_of s ≡ Run command
+  pub is : decode_of s ≡ Ok command
   pub has : Has s command
 
-refused-code : (m : Machine) (a : Call) (k : ℕ) → decode_of a.command ≡ Refused k → (step m a).outcome.code ≡ k
+refused-code : (m : Machine) (a : Call) (k : Refusal) → decode_of a.command ≡ Err k → (step m a).outcome.code ≡ refusal_number k
 unfolding step decide
-refused-code m a k e = ap (λ (d : Decoded). (perform m a.text (of_decoded d (public m) a)).outcome.code) e
+refused-code m a k e = ap (λ (d : Result Command Refusal). (perform m a.text (of_decoded d (public m) a)).outcome.code) e
 
 module _ (c : Seen) (a : Call) where
   accepted-read : (card_step c a).outcome.code ≡ 0 → Read a.command
   accepted-read z = by (decode_of a.command) refl (read-in a.command)
     where
-      not-refused : (k : ℕ) → decode_of a.command ≡ Refused k → (card_step c a).outcome.code ≡ 0 → ⊥
+      not-refused : (k : Refusal) → decode_of a.command ≡ Err k → (card_step c a).outcome.code ≡ 0 → ⊥
       not-refused k e =
           of-card (λ x. x.outcome.code ≡ 0 → ⊥) c a (λ q. absurd (let y : ◌≡◌ {A = ℕ} 255 0 = q in omega arith))
           (λ q. refusal-told a.command k e (sym (refused-code (back c) a k e) ∙ q))
 
-      by : (d : Decoded) → decode_of a.command ≡ d → ReadIn a.command d → Read a.command
-      by (Run x) e (run_in h) = record { command = x; is = e; has = h }
-      by (Refused k) e (refused-in n) = absurd (not-refused k e z)
+      by : (d : Result Command Refusal) → decode_of a.command ≡ d → ReadIn a.command d → Read a.command
+      by (Ok x) e (run_in h) = record { command = x; is = e; has = h }
+      by (Err k) e (refused-in n) = absurd (not-refused k e z)
 
   -- so it has a first byte, and a line of the card behind it
   pub named : Named (card_step c a).outcome.code a.command
@@ -76,7 +76,7 @@ module _ (s : List ℕ) (c : Seen) (used : ℕ) where
 
 module _ (x : Made) (h : x.used-data ≤ length x.call.text) where
   -- what the log says of a command that was read so
-  by-command : (k : Command) → Has x.call.command k → recorded x.call.command x.card x.used-data ≡ records_of (used_by x.card (done_by x (Run k)))
+  by-command : (k : Command) → Has x.call.command k → recorded x.call.command x.card x.used-data ≡ records_of (used_by x.card (done_by x (Ok k)))
   unfolding used_by records_of
   by-command (Tray i c k) r = other x.call.command x.card x.used-data 1 r.kind (λ e. absurd (omega arith))
   by-command (Own i c) r = other x.call.command x.card x.used-data 2 r.kind (λ e. absurd (omega arith))
@@ -101,7 +101,7 @@ module _ (x : Made) (h : x.used-data ≤ length x.call.text) where
       by false e = refl
       by true e =
           let r = f (eqb-true x.code 0 e) in
-          by-command r.command r.has ∙ ap (λ (d : Decoded). records_of (used_by x.card (done_by x d))) (sym r.is)
+          by-command r.command r.has ∙ ap (λ (d : Result Command Refusal). records_of (used_by x.card (done_by x d))) (sym r.is)
 
 pub call-recorded : (c : Seen) (a : Call) →
     record_for (made c a).code a.command (made c a).card (made c a).used-data ≡ records_of (used_by (made c a).card (did (made c a)))
@@ -118,18 +118,18 @@ recorded-by : (x : Made) → Recorded x (used_by x.card (did x))
 unfolding used_by
 recorded-by x = by (eqb x.code 0) refl (decode_of x.call.command)
   where
-    by : (b : Bool) → eqb x.code 0 ≡ b → (d : Decoded) → Recorded x (used_by x.card (pick b (done_by x d) did_nothing))
+    by : (b : Bool) → eqb x.code 0 ≡ b → (d : Result Command Refusal) → Recorded x (used_by x.card (pick b (done_by x d) did_nothing))
     by false e d = recorded-none
-    by true e (Run (Tray i c k)) = recorded-none
-    by true e (Run (Own i c)) = recorded-none
-    by true e (Run (Crypt i n)) = recorded-one (eqb-true x.code 0 e)
-    by true e (Run (Park i)) = recorded-none
-    by true e (Run (Resume i)) = recorded-none
-    by true e (Run (Close i)) = recorded-none
-    by true e (Run (Change i k p)) = recorded-none
-    by true e (Run (Load i c k)) = recorded-none
-    by true e (Run (Start i)) = recorded-none
-    by true e (Refused k) = recorded-none
+    by true e (Ok (Tray i c k)) = recorded-none
+    by true e (Ok (Own i c)) = recorded-none
+    by true e (Ok (Crypt i n)) = recorded-one (eqb-true x.code 0 e)
+    by true e (Ok (Park i)) = recorded-none
+    by true e (Ok (Resume i)) = recorded-none
+    by true e (Ok (Close i)) = recorded-none
+    by true e (Ok (Change i k p)) = recorded-none
+    by true e (Ok (Load i c k)) = recorded-none
+    by true e (Ok (Start i)) = recorded-none
+    by true e (Err k) = recorded-none
 
 pub record-few : (x : Made) → length (records_of (used_by x.card (did x))) ≤ 10 * pick (eqb x.code 0) 1 0
 record-few x = let h = by (used_by x.card (did x)) (recorded-by x) in omega (arith, records-length (used_by x.card (did x)))

@@ -8,6 +8,7 @@ ghost use Rattle.session_call.specs.Turn.{Ready, Turned};
 use card::Card;
 use session_records::put_record;
 use session_table::put_row;
+use text::Text;
 
 // How far the run has come: the card, the bytes used of commands and data, the bytes written to out, to the table and to the records, calls
 // and the last code.
@@ -40,20 +41,19 @@ pub fn turn<'a>(
     let i = p.command;
     let j = p.data;
     let k = p.out;
-    let at = p.table;
-    let call = p.calls + 1;
-    let card = p.card;
-    let answer = card::call(card, &commands[i..], tray, &text[j..], &mut out[k..]);
+    let answer = card::call(p.card, &commands[i..], tray, &text[j..], &mut out[k..]);
     let outcome = answer.outcome;
     let code = outcome.code;
     let used = outcome.used_command;
     let taken = outcome.used_data;
     let written = outcome.written;
-    let end = put_row(call, code, used, taken, written, at, table);
     let kept = answer.card;
     let words = kept.words;
-    let from = p.records;
-    let last = put_record(code, &commands[i..], &words, taken, from, records);
+    let calls = p.calls + 1;
+    let mut rows = Text::new(table, p.table);
+    put_row(calls, code, used, taken, written, &mut rows);
+    let mut kept_records = Text::new(records, p.records);
+    put_record(code, &commands[i..], &words, taken, &mut kept_records);
     let command = i + used;
     let data = j + taken;
     let filled = k + written;
@@ -62,9 +62,9 @@ pub fn turn<'a>(
         command,
         data,
         out: filled,
-        table: end,
-        records: last,
-        calls: call,
+        table: rows.len(),
+        records: kept_records.len(),
+        calls,
         code,
     }
 }

@@ -11,8 +11,9 @@ use borrow.Author.Tests.{eq-eqb, ne_eqb}
 use Rattle.words.specs.Tests.{both, pick}
 use Rattle.machine.specs.Machine.{Seen}
 use Rattle.machine.specs.Calls.{line_on}
-use Rattle.text.specs.Text.{Behind}
-use Rattle.text.proofs.Pieces.{behind-none}
+use Rattle.text.specs.Text.{Room, Written}
+use Rattle.text.specs.declared.Text.{Text}
+use Rattle.text.proofs.Pieces.{written-none}
 use Rattle.records.specs.Records.{record_of}
 use Rattle.session_records.specs.Recorded.{record_for}
 
@@ -22,18 +23,18 @@ module _ (code : ℕ) (command : List ℕ) (c : Seen) (used : ℕ) where
   unfolding record_for
   record-by b e = ap (λ (x : Bool). pick x (record_of (get_or command 1 0) (line_on c (get_or command 1 0)).cipher used) []) e
 
-  module _ {at : ℕ} {before : List ℕ} (room : at + 10 ≤ length before) where
-    nothing : both (eqb code 0) (eqb (get_or command 0 0) 3) ≡ false → Behind (record_for code command c used) at before before at
-    nothing e = subst (λ (p : List ℕ). Behind p at before before at) (sym (record-by false e)) (behind-none (omega arith))
+  module _ {a : Text} (room : Room 10 a) where
+    nothing : both (eqb code 0) (eqb (get_or command 0 0) 3) ≡ false → Written (record_for code command c used) a a
+    nothing e = subst (λ (p : List ℕ). Written p a a) (sym (record-by false e)) (written-none (omega arith))
 
-    pub put_refused : (code ≡ 0 → ⊥) → Behind (record_for code command c used) at before before at
+    pub put_refused : (code ≡ 0 → ⊥) → Written (record_for code command c used) a a
     put_refused h = nothing (ap (λ (b : Bool). both b (eqb (get_or command 0 0) 3)) (ne_eqb code 0 h))
 
-    pub put_other : code ≡ 0 → (get_or command 0 0 ≡ 3 → ⊥) → Behind (record_for code command c used) at before before at
+    pub put_other : code ≡ 0 → (get_or command 0 0 ≡ 3 → ⊥) → Written (record_for code command c used) a a
     put_other h k = nothing (λ i. both (eq-eqb code 0 h i) (ne_eqb (get_or command 0 0) 3 k i))
 
-  pub put-crypt : {at r n : ℕ} {before out : List ℕ} → code ≡ 0 → get_or command 0 0 ≡ 3 → n ≡ (line_on c (get_or command 1 0)).cipher →
-      Behind (record_of (get_or command 1 0) n used) at before out r → Behind (record_for code command c used) at before out r
-  put-crypt {at} {r} {n} {before} {out} h k e b =
-      subst (λ (p : List ℕ). Behind p at before out r) (sym (record-by true (λ i. both (eq-eqb code 0 h i) (eq-eqb (get_or command 0 0) 3 k i))))
-      (subst (λ (x : ℕ). Behind (record_of (get_or command 1 0) x used) at before out r) e b)
+  pub put-crypt : {n : ℕ} {a b : Text} → code ≡ 0 → get_or command 0 0 ≡ 3 → n ≡ (line_on c (get_or command 1 0)).cipher →
+      Written (record_of (get_or command 1 0) n used) a b → Written (record_for code command c used) a b
+  put-crypt {n} {a} {b} h k e w =
+      subst (λ (p : List ℕ). Written p a b) (sym (record-by true (λ i. both (eq-eqb code 0 h i) (eq-eqb (get_or command 0 0) 3 k i))))
+      (subst (λ (x : ℕ). Written (record_of (get_or command 1 0) x used) a b) e w)

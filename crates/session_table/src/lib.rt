@@ -2,59 +2,50 @@
 // how many calls were accepted.
 #![tactic(auto)]
 
-ghost use Rattle.std.specs.Prelude.{◌≡◌, ◌+◌, ◌≤◌, length};
-ghost use Rattle.text.specs.Text.{Behind};
+ghost use Rattle.std.specs.Prelude.{◌≡◌};
+ghost use Rattle.text.specs.Text.{Room, Written};
 ghost use Rattle.session_table.specs.Table.{columns, call_row, end_of, accepted_of};
 
-use text::put_figure;
+use text::Text;
 
-// The column names go to the start of out. Returns where they end.
-pub fn put_columns(out: &mut [u8]) -> usize
-    requires { 23 ≤ length out.old }
-    ensures { Behind columns 0 out.old out.new result }
+// The column names go behind the text.
+pub fn put_columns(table: &mut Text)
+    requires { Room 23 table.old }
+    ensures { Written columns table.old table.new }
 {
-    text::put(b"call code cmd data out\n", 0, out)
+    table.put(b"call code cmd data out\n");
 }
 
-// A line of the table goes behind the first at bytes of out. Returns where it ends.
-pub fn put_row(
-    call: usize,
-    code: u8,
-    command: usize,
-    text: usize,
-    written: usize,
-    at: usize,
-    out: &mut [u8],
-) -> usize
-    requires { at + 105 ≤ length out.old }
-    ensures { Behind (call_row call code command text written) at out.old out.new result }
+// A line of the table goes behind the text.
+pub fn put_row(call: usize, code: u8, command: usize, text: usize, written: usize, table: &mut Text)
+    requires { Room 105 table.old }
+    ensures { Written (call_row call code command text written) table.old table.new }
 {
-    let a = put_figure(call as u64, 32, at, out);
-    let b = put_figure(code as u64, 32, a, out);
-    let c = put_figure(command as u64, 32, b, out);
-    let d = put_figure(text as u64, 32, c, out);
-    put_figure(written as u64, 10, d, out)
+    table.put_figure(call as u64, b' ');
+    table.put_figure(code as u64, b' ');
+    table.put_figure(command as u64, b' ');
+    table.put_figure(text as u64, b' ');
+    table.put_figure(written as u64, b'\n');
 }
 
-// The last line of the table goes behind the first at bytes of out. Returns where it ends.
-pub fn put_end(accepted: usize, code: u8, at: usize, out: &mut [u8]) -> usize
-    requires { at + 46 ≤ length out.old }
-    ensures { Behind (end_of accepted code) at out.old out.new result }
+// The last line of the table goes behind the text.
+pub fn put_end(accepted: usize, code: u8, table: &mut Text)
+    requires { Room 46 table.old }
+    ensures { Written (end_of accepted code) table.old table.new }
 {
-    let a = text::put(b"end ", at, out);
-    let b = put_figure(accepted as u64, 32, a, out);
-    put_figure(code as u64, 10, b, out)
+    table.put(b"end ");
+    table.put_figure(accepted as u64, b' ');
+    table.put_figure(code as u64, b'\n');
 }
 
 // Accepted calls: all but a last one that was refused.
+#[tactic(auto, unfolding(crate::specs::Table::accepted_of))]
 pub fn accepted_of(calls: usize, code: u8) -> usize
     ensures { result ≡ accepted_of calls code }
 {
     if code == 0 {
-        return calls;
+        calls
+    } else {
+        calls.saturating_sub(1)
     }
-    if calls == 0 {
-        return 0;
-    }
-    calls - 1
 }

@@ -10,15 +10,11 @@ const READ: usize = traffic::MOST + 1;
 
 fn main(rt: HostRuntime) {
     let mut records = [0u8; READ];
-    let got = files::read(rt, b"use.bin", b"sheet: use.bin", &mut records);
-    if got < 0 {
+    let Ok(n) = files::read(rt, b"use.bin", b"sheet: use.bin", &mut records) else {
         return;
-    }
-    let n = got as usize;
+    };
     let mut out = [0u8; SHEET];
     let reported = report::report(&records[..n], &mut out);
     let written = reported.written;
-    if let Err(e) = rt.write_all(&out[..written]) {
-        let _ = eprintln!(rt; "sheet: standard output: {e}");
-    }
+    files::print(rt, b"sheet: standard output", &out[..written]);
 }

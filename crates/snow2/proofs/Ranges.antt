@@ -1,6 +1,6 @@
 -- SNOW 2.0's states stay in range: products in the field and T are words, and sums and exclusive ors of words are words.
 -- Assumes nothing.
-use Rattle.std.proofs.Common.{◌≡◌, ℕ, ◌-◌, ◌<◌, List, length, get_or, refl, arith, lit<}
+use Rattle.std.proofs.Common.{◌≡◌, ℕ, List, length, get_or, refl, arith, lit<}
 use Rattle.words.specs.Word.{not32}
 use Rattle.words.specs.Strings.{four_at, bytes_of}
 use Rattle.words.specs.Lists.{All, none, more, Byte, Word}

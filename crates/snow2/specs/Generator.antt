@@ -4,5 +4,5 @@ use Rattle.snow2.specs.declared.Snow2.{Snow2}
 use Rattle.snow2.specs.Cipher.{next, unit as unit_of}
 use Rattle.keystream.specs.Stream.{Gen}
 
-unfoldable pub gen : Gen Snow2
+abbrev pub gen : Gen Snow2
 gen = record { unit = 4; next = next; strm = unit_of }

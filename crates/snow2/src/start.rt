@@ -1,28 +1,20 @@
 // The start of SNOW 2.0 from key and IV (ISO/IEC 18033-4, 8.2.2), with keys of 16 and of 32 bytes: the state before any step, and S(0).
-// The caller must ensure the lengths of key and IV, and passes by reference the tables that `snow2_tables` and `field::tables::column` make.
+// The caller must ensure the lengths of key and IV.
 ghost use Rattle.std.specs.Prelude.{◌≡◌, length};
-ghost use Rattle.words.specs.Word.{not32};
-ghost use Rattle.words.specs.Lists.{iter};
-ghost use Rattle.snow2_tables.specs.Tables.{Lent};
-ghost use Rattle.snow2.specs.Cipher.{cells, nots, loaded128, loaded256, started, next_init, init128 as init128_of, init256 as init256_of};
+ghost use Rattle.snow2.specs.Cipher.{cells, nots, loaded128, loaded256, started, init128 as init128_of, init256 as init256_of};
 
 use crate::Snow2;
 
-// The complement of w.
-fn not(w: u32) -> u32
-    ensures { result ≡ not32 w }
-{
-    4294967295 - w
-}
-
 // The complements of four words.
+#[tactic(auto, unfolding(crate::specs::Cipher::nots))]
 fn not4(k: [u32; 4]) -> [u32; 4]
     ensures { result ≡ nots k }
 {
-    [not(k[0]), not(k[1]), not(k[2]), not(k[3])]
+    [!k[0], !k[1], !k[2], !k[3]]
 }
 
 // s0..s15, with the words of a at the top, then those of b, c and d, and those of an IV.
+#[tactic(auto, unfolding(crate::specs::Cipher::cells))]
 fn arrange(a: [u32; 4], b: [u32; 4], c: [u32; 4], d: [u32; 4], v: [u32; 4]) -> [u32; 16]
     ensures { result ≡ cells a b c d v }
 {
@@ -47,6 +39,7 @@ fn arrange(a: [u32; 4], b: [u32; 4], c: [u32; 4], d: [u32; 4], v: [u32; 4]) -> [
 }
 
 // The state of a key of 16 bytes and an IV before any step.
+#[tactic(auto, unfolding(crate::specs::Cipher::loaded128))]
 pub fn load128(key: &[u8], iv: &[u8]) -> Snow2
     requires key_len { length key.now ≡ 16 }
     requires iv_len { length iv.now ≡ 16 }
@@ -59,6 +52,7 @@ pub fn load128(key: &[u8], iv: &[u8]) -> Snow2
 }
 
 // The state of a key of 32 bytes and an IV before any step.
+#[tactic(auto, unfolding(crate::specs::Cipher::loaded256))]
 pub fn load256(key: &[u8], iv: &[u8]) -> Snow2
     requires key_len { length key.now ≡ 32 }
     requires iv_len { length iv.now ≡ 16 }
@@ -70,49 +64,35 @@ pub fn load256(key: &[u8], iv: &[u8]) -> Snow2
     Snow2 { s, r1: 0, r2: 0 }
 }
 
-// The state after four steps in INIT mode.
-fn four(st: Snow2, a: &[u32; 256], ai: &[u32; 256], t: &[u32; 256]) -> Snow2
-    requires { Lent a.now ai.now t.now }
-    ensures { result ≡ iter 4 next_init st }
-{
-    let s1 = st.step_init(a, ai, t);
-    let s2 = s1.step_init(a, ai, t);
-    let s3 = s2.step_init(a, ai, t);
-    s3.step_init(a, ai, t)
-}
-
 // S(0) of a loaded state.
-fn start(st: Snow2, a: &[u32; 256], ai: &[u32; 256], t: &[u32; 256]) -> Snow2
-    requires { Lent a.now ai.now t.now }
+fn start(st: Snow2) -> Snow2
     ensures { result ≡ started st }
 {
     let mut s = st;
-    let mut i: usize = 0;
-    while i < 32 {
-        s = four(s, a, ai, t);
-        i += 4;
+    for _ in 0..32usize {
+        s = s.step_init();
     }
-    s.step(a, ai, t)
+    s.step()
 }
 
 impl Snow2 {
     // S(0) of a key of 16 bytes and an IV.
-    pub fn init128(key: &[u8], iv: &[u8], a: &[u32; 256], ai: &[u32; 256], t: &[u32; 256]) -> Snow2
+    #[tactic(auto, unfolding(crate::specs::Cipher::init128))]
+    pub fn init128(key: &[u8], iv: &[u8]) -> Snow2
         requires key_len { length key.now ≡ 16 }
         requires iv_len { length iv.now ≡ 16 }
-        requires lent { Lent a.now ai.now t.now }
         ensures { result ≡ init128_of key.now iv.now }
     {
-        start(load128(key, iv), a, ai, t)
+        start(load128(key, iv))
     }
 
     // S(0) of a key of 32 bytes and an IV.
-    pub fn init256(key: &[u8], iv: &[u8], a: &[u32; 256], ai: &[u32; 256], t: &[u32; 256]) -> Snow2
+    #[tactic(auto, unfolding(crate::specs::Cipher::init256))]
+    pub fn init256(key: &[u8], iv: &[u8]) -> Snow2
         requires key_len { length key.now ≡ 32 }
         requires iv_len { length iv.now ≡ 16 }
-        requires lent { Lent a.now ai.now t.now }
         ensures { result ≡ init256_of key.now iv.now }
     {
-        start(load256(key, iv), a, ai, t)
+        start(load256(key, iv))
     }
 }

@@ -1,8 +1,7 @@
 -- The tables of SNOW 2.0 (document 000, 8.2.6 and 8.2.7), as lists, and the field whose products they hold. The program `tables` prints them from it.
 -- Assumes nothing.
-use Rattle.std.specs.Prelude.{◌≡◌, List, [], ◌∷◌, ℕ}
+use Rattle.std.specs.Prelude.{List, [], ◌∷◌, ℕ}
 use Rattle.field.specs.Gf32.{Field}
-use Rattle.field.specs.Tables.{column_list}
 
 -- 8.2.6: the field of α, GF(2^8) over x^8 + x^7 + x^5 + x^3 + 1, and y^4 = x^23 y^3 + x^245 y^2 + x^48 y + x^239. No document prints them; the printed tables
 -- are their products.
@@ -84,9 +83,3 @@ inverse_list =
     0xd72e934b ∷ 0xcf21d386 ∷ 0xe7301378 ∷ 0xff3f53b5 ∷ 0xb7123a2d ∷ 0xaf1d7ae0 ∷ 0x870cba1e ∷ 0x9f03fad3 ∷
     0x3ea637b6 ∷ 0x26a9777b ∷ 0x0eb8b785 ∷ 0x16b7f748 ∷ 0x5e9a9ed0 ∷ 0x4695de1d ∷ 0x6e841ee3 ∷ 0x768b5e2e ∷
     0xfedecc7a ∷ 0xe6d18cb7 ∷ 0xcec04c49 ∷ 0xd6cf0c84 ∷ 0x9ee2651c ∷ 0x86ed25d1 ∷ 0xaefce52f ∷ 0xb6f3a5e2 ∷ []
-
--- a, ai and t are lent as αMUL, αinv_MUL and the table of T
-pub record Lent (a ai t : List ℕ) : Type 0 where
-  pub is-alpha : a ≡ alpha_list
-  pub is_inverse : ai ≡ inverse_list
-  pub is-column : t ≡ column_list

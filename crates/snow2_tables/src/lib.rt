@@ -1,11 +1,11 @@
-// The tables of SNOW 2.0. An index into a constant builds the constant anew, so whoever runs many steps makes a table once and passes it by reference.
+// The tables of SNOW 2.0, as statics: whoever asks for a table reads the one that the program holds.
 #![tactic(auto)]
 
 ghost use Rattle.std.specs.Prelude.{◌≡◌};
 ghost use Rattle.snow2_tables.specs.Tables.{alpha_list, inverse_list};
 
 // `target/bin/tables | sed -n 17,32p` prints it from its rule; `tests/tables` compares the two.
-const ALPHA_MUL: [u32; 256] = [
+static ALPHA_MUL: [u32; 256] = [
     0x00000000, 0xe19fcf13, 0x6b973726, 0x8a08f835, 0xd6876e4c, 0x3718a15f, 0xbd10596a, 0x5c8f9679,
     0x05a7dc98, 0xe438138b, 0x6e30ebbe, 0x8faf24ad, 0xd320b2d4, 0x32bf7dc7, 0xb8b785f2, 0x59284ae1,
     0x0ae71199, 0xeb78de8a, 0x617026bf, 0x80efe9ac, 0xdc607fd5, 0x3dffb0c6, 0xb7f748f3, 0x566887e0,
@@ -41,7 +41,7 @@ const ALPHA_MUL: [u32; 256] = [
 ];
 
 // `target/bin/tables | sed -n 33,48p` prints it from its rule; `tests/tables` compares the two.
-const ALPHA_INV_MUL: [u32; 256] = [
+static ALPHA_INV_MUL: [u32; 256] = [
     0x00000000, 0x180f40cd, 0x301e8033, 0x2811c0fe, 0x603ca966, 0x7833e9ab, 0x50222955, 0x482d6998,
     0xc078fbcc, 0xd877bb01, 0xf0667bff, 0xe8693b32, 0xa04452aa, 0xb84b1267, 0x905ad299, 0x88559254,
     0x29f05f31, 0x31ff1ffc, 0x19eedf02, 0x01e19fcf, 0x49ccf657, 0x51c3b69a, 0x79d27664, 0x61dd36a9,
@@ -77,15 +77,15 @@ const ALPHA_INV_MUL: [u32; 256] = [
 ];
 
 // The products of y^4 with each byte.
-pub fn alpha() -> [u32; 256]
-    ensures { result ≡ alpha_list }
+pub fn alpha() -> &'static [u32; 256]
+    ensures { result.now ≡ alpha_list }
 {
-    ALPHA_MUL
+    &ALPHA_MUL
 }
 
 // The products of the inverse of alpha with each byte.
-pub fn inverse() -> [u32; 256]
-    ensures { result ≡ inverse_list }
+pub fn inverse() -> &'static [u32; 256]
+    ensures { result.now ≡ inverse_list }
 {
-    ALPHA_INV_MUL
+    &ALPHA_INV_MUL
 }

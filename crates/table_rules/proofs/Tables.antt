@@ -3,9 +3,8 @@
 -- Assumes nothing.
 use mathlib.Core.Path.{◌≡◌, refl, ap, sym, ◌∙◌}
 use mathlib.Core.List.{List, [], ◌∷◌, ◌++◌, append-nil}
-use Prim.Native.Nat.{ℕ, suc, ◌+◌, ◌<◌, ◌≤◌, ◌^◌}
+use Prim.Native.Nat.{ℕ, suc, ◌+◌, ◌<◌}
 use native.Mathlib.Omega.{arith}
-use lib.Dec.{lit≤}
 use lib.ListN.{length, get_or, drop, set, replicate}
 use Rattle.words.specs.Lists.{tab}
 use Rattle.words.proofs.Registers.{cons, fill}
@@ -34,17 +33,15 @@ substitution-is = by-rule sub sub_list sub-rule
 
 -- the first k of 256 entries of t are f's, and no other is written
 pub record Entered (f : ℕ → ℕ) (t : List ℕ) (k : ℕ) : Type 0 where
-  pub within : k ≤ 256
   pub is : t ≡ tab k f ++ drop k (replicate 256 0)
 
 pub entered-none : (f : ℕ → ℕ) → Entered f (replicate 256 0) 0
-entered-none f = record { within = lit≤ tt; is = refl }
+entered-none f = record { is = refl }
 
 pub entered-more : (f : ℕ → ℕ) {t : List ℕ} {k x : ℕ} → k < 256 → x ≡ f k → Entered f t k → Entered f (set t k x) (k + 1)
-entered-more f {k = k} h e g = record { within = omega arith; is = rw (e, g.is) (fill k f (replicate 256 0) h) }
+entered-more f {k = k} h e g = record { is = rw (e, g.is) (fill k f (replicate 256 0) h) }
 
-pub entered_all : (f : ℕ → ℕ) {t : List ℕ} {k : ℕ} → 256 ≤ k → Entered f t k → (t ≡ tab 256 f) × (256 ≡ length t)
-entered_all f {t} {k} h g =
-    let q : k ≡ 256 = omega (arith, g.within) in
+pub entered_all : (f : ℕ → ℕ) {t : List ℕ} {k : ℕ} → k ≡ 256 → Entered f t k → (t ≡ tab 256 f) × (256 ≡ length t)
+entered_all f {t} {k} q g =
     let e : t ≡ tab 256 f = g.is ∙ ap (λ (j : ℕ). tab j f ++ drop j (replicate 256 0)) q ∙ append-nil (tab 256 f) in
     (e, sym (ap length e))

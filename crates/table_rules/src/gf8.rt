@@ -30,12 +30,10 @@ pub fn product(p: u16, a: u8, b: u8) -> u8
     let mut sum: u8 = 0;
     let mut x = a;
     let mut y = b;
-    let mut left: usize = 8;
-    while left > 0 {
-        sum = sum ^ if_one(y % 2, x);
+    for _ in 0..8usize {
+        sum ^= if_one(y % 2, x);
         x = times_x(p, x);
-        y = y / 2;
-        left -= 1;
+        y /= 2;
     }
     sum
 }
@@ -46,11 +44,9 @@ pub fn inverse(p: u16, a: u8) -> u8
 {
     let mut r: u8 = 1;
     let mut s = a;
-    let mut left: usize = 7;
-    while left > 0 {
+    for _ in 0..7usize {
         s = product(p, s, s);
         r = product(p, r, s);
-        left -= 1;
     }
     r
 }
@@ -59,11 +55,7 @@ pub fn inverse(p: u16, a: u8) -> u8
 fn mapped(a: u8) -> u8
     ensures { result ≡ affine a }
 {
-    let a1 = (a << 1) + (a >> 7);
-    let a2 = (a << 2) + (a >> 6);
-    let a3 = (a << 3) + (a >> 5);
-    let a4 = (a << 4) + (a >> 4);
-    a ^ a1 ^ a2 ^ a3 ^ a4 ^ 0x63
+    a ^ a.rotate_left(1) ^ a.rotate_left(2) ^ a.rotate_left(3) ^ a.rotate_left(4) ^ 0x63
 }
 
 // What AES's substitution makes of a, over p.

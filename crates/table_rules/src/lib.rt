@@ -14,10 +14,8 @@ pub fn products(p: u16, v: u32) -> [u32; 256]
     ensures value_2 { 256 ≡ length result }
 {
     let mut t = [0u32; 256];
-    let mut k: usize = 0;
-    while k < 256 {
+    for k in 0..256 {
         t[k] = gf8::scaled(p, k as u8, v);
-        k += 1;
     }
     t
 }
@@ -28,10 +26,8 @@ pub fn substitution(p: u16) -> [u32; 256]
     ensures value_2 { 256 ≡ length result }
 {
     let mut t = [0u32; 256];
-    let mut k: usize = 0;
-    while k < 256 {
+    for k in 0..256 {
         t[k] = words::wide(gf8::substituted(p, k as u8));
-        k += 1;
     }
     t
 }

@@ -7,7 +7,5 @@ use tables_text::SIZE;
 fn main(rt: HostRuntime) {
     let mut out = [0u8; SIZE];
     tables_text::tables(&mut out);
-    if let Err(e) = rt.write_all(&out) {
-        let _ = eprintln!(rt; "tables: standard output: {e}");
-    }
+    files::print(rt, b"tables: standard output", &out);
 }

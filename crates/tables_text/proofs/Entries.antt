@@ -6,11 +6,11 @@ use Prim.Native.Nat.{ℕ, zero, suc, ◌+◌, ◌-◌, ◌*◌, ◌<◌, ◌≤�
 use native.Mathlib.Nat.{suc-mul, zero-mul, add_comm}
 use native.Mathlib.Numerals.{add-one}
 use native.Mathlib.Omega.{arith}
-use borrow.Rule.Slice.PartMut.{put_mid, Post-is}
-use lib.ListN.{length, get_or, take, drop, length-append, length-drop}
-use lib.Seq.{drop-cons, drop-length, length-take-le}
-use Rattle.text.specs.Text.{Behind}
-use Rattle.text.proofs.Pieces.{Gathering, gather_none, gather-more, gather-all, gather-length, behind-length, behind-store}
+use lib.ListN.{length, get_or, take, drop, length-append}
+use lib.Seq.{drop-cons, drop-length}
+use Rattle.text.specs.Text.{Behind, Room, Written}
+use Rattle.text.specs.declared.Text.{Text}
+use Rattle.text.proofs.Pieces.{Gathering, gather_none, gather-more, gather-all, gather-length, behind-length, written-more}
 use Rattle.hex_text.specs.Hex.{hexadecimal}
 use Rattle.hex_text.proofs.Digits.{digits-count}
 use Rattle.tables_text.specs.Tables.{behind_entry, entry_text, entries_from, table_text}
@@ -28,21 +28,13 @@ entries-length w i (x ∷ t) =
     ∙ ap₂ ◌+◌ (entry_length w x (behind_entry i)) (entries-length w (suc i) t)
     ∙ sym (suc-mul (length t) (w + 1) ∙ add_comm (length t * (w + 1)) (w + 1))
 
--- ---- the digits of an entry
+-- ---- an entry
 
--- they are put to the part that is lent
-pub digits-put : (w n at : ℕ) (before ys : List ℕ) → at + (w + 1) ≤ length before → ys ≡ hexadecimal (length (take (at + w - at) (drop at before))) n →
-    Behind (hexadecimal w n) at before (put_mid at (at + w - at) before ys) (at + w)
-digits-put w n at before ys h s =
-    let l : length (take (at + w - at) (drop at before)) ≡ w =
-    length-take-le (at + w - at) (drop at before) (omega (arith, length-drop at before)) ∙ omega arith in
-    record {
-      end = ap (λ (k : ℕ). at + k) (sym (digits-count w n));
-      fits = omega arith;
-      is =
-          ap₂ (λ (x y : List ℕ). take at before ++ (x ++ y)) (s ∙ ap (λ (k : ℕ). hexadecimal k n) l) (Post-is at (at + w) before (omega arith))
-          ∙ sym (append_assoc (take at before) (hexadecimal w n) (drop (at + w) before));
-    }
+-- the digits that fill w places, and the byte behind them
+pub entry-put : (w n e : ℕ) (places : List ℕ) {digits : List ℕ} {a b c : Text} → length places ≡ w → digits ≡ hexadecimal (length places) n →
+    Written digits a b → Written (e ∷ []) b c → Written (entry_text w n e) a c
+entry-put w n e places {a = a} {c = c} l d p q =
+    subst (λ (x : List ℕ). Written (x ++ (e ∷ [])) a c) (d ∙ ap (λ (k : ℕ). hexadecimal k n) l) (written-more p q)
 
 -- ---- entry by entry
 
@@ -52,42 +44,53 @@ unfolding entries_from
 entry_next w i t h =
     ap (entries_from w i) (drop-cons t i 0 h) ∙ ap (λ (k : ℕ). entry_text w (get_or t i 0) (behind_entry i) ++ entries_from w k (drop k t)) (sym (add-one i))
 
--- the first i entries stand behind the first at₀ bytes, up to at, and there is room for all
-pub record Putting (w : ℕ) (t : List ℕ) (at₀ : ℕ) (before : List ℕ) (i : ℕ) (out : List ℕ) (at : ℕ) : Type 0 where
-  pub room : at₀ + length t * (w + 1) ≤ length before
-  pub within : i ≤ length t
-  pub gathered : Gathering (table_text w t) (entries_from w i (drop i t)) at₀ before out at
+-- of t's entries, the first i were put behind the text a, and there was room for all
+pub record Putting (w : ℕ) (t : List ℕ) (a : Text) (i : ℕ) (b : Text) : Type 0 where
+  pub room : a.len + length t * (w + 1) ≤ length a.out.now
+  pub same : b.out.ghost_name ≡ a.out.ghost_name
+  pub gathered : Gathering (table_text w t) (entries_from w i (drop i t)) a.len a.out.now b.out.now b.len
 
-pub putting-none : {w : ℕ} {t : List ℕ} {at : ℕ} {before : List ℕ} → at + length t * (w + 1) ≤ length before → Putting w t at before 0 before at
-putting-none room = record { room = room; within = omega arith; gathered = gather_none (omega arith) }
+pub putting-none : {w : ℕ} {t : List ℕ} {a : Text} → Room (length t * (w + 1)) a → Putting w t a 0 a
+putting-none room = record { room = room; same = refl; gathered = gather_none (omega arith) }
 
-module _ {w : ℕ} {t : List ℕ} {at₀ : ℕ} {before : List ℕ} {i : ℕ} {mid : List ℕ} {at : ℕ} (p : Putting w t at₀ before i mid at) where
-  pub putting-same : length mid ≡ length before
-  putting-same = behind-length p.gathered.behind
-
-  pub putting-room : i < length t → at + (w + 1) ≤ length mid
+module _ {w : ℕ} {t : List ℕ} {a : Text} {i : ℕ} {b : Text} (p : Putting w t a i b) where
+  pub putting-room : i < length t → Room (w + 1) b
   putting-room h =
       let e = ap length (entry_next w i t h) ∙ length-append (entry_text w (get_or t i 0) (behind_entry i)) (entries_from w (i + 1) (drop (i + 1) t)) in
       let n = entry_length w (get_or t i 0) (behind_entry i) in
       let s = gather-length p.gathered in
       let m = entries-length w 0 t in
-      let same = putting-same in
+      let same = behind-length p.gathered.behind in
       let r = p.room in
       omega arith
 
-  pub putting-more : {out : List ℕ} {r : ℕ} → i < length t → Behind (entry_text w (get_or t i 0) (behind_entry i)) at mid out r → Putting w t at₀ before (i + 1) out r
-  putting-more h b =
+  pub putting-more : {x : ℕ} {c : Text} → i < length t → x ≡ behind_entry i → Written (entry_text w (get_or t i 0) x) b c → Putting w t a (i + 1) c
+  putting-more {c = c} h f v =
       record {
         room = p.room;
-        within = omega arith;
-        gathered = gather-more (subst (λ (l : List ℕ). Gathering (table_text w t) l at₀ before mid at) (entry_next w i t h) p.gathered) b;
+        same = v.same ∙ p.same;
+        gathered =
+            gather-more (subst (λ (l : List ℕ). Gathering (table_text w t) l a.len a.out.now b.out.now b.len) (entry_next w i t h) p.gathered)
+            (subst (λ (y : ℕ). Behind (entry_text w (get_or t i 0) y) b.len b.out.now c.out.now c.len) f v.behind);
       }
 
-  pub putting-all : length t ≤ i → Behind (table_text w t) at₀ before mid at
+  pub putting-all : length t ≤ i → i ≤ length t → Written (table_text w t) a b
   unfolding entries_from
-  putting-all h =
-      let e : i ≡ length t = omega (arith, p.within) in
-      gather-all (subst (λ (l : List ℕ). Gathering (table_text w t) (entries_from w i l) at₀ before mid at) (ap (λ (j : ℕ). drop j t) e ∙ drop-length t) p.gathered)
+  putting-all h k =
+      let e : i ≡ length t = omega arith in
+      record {
+        same = p.same;
+        behind = gather-all (subst (λ (l : List ℕ). Gathering (table_text w t) (entries_from w i l) a.len a.out.now b.out.now b.len) (ap (λ (j : ℕ). drop j t) e ∙ drop-length t) p.gathered);
+      }
 
-  pub putting-end : length t ≤ i → at ≡ at₀ + length t * (w + 1)
-  putting-end h = (putting-all h).end ∙ ap (λ (k : ℕ). at₀ + k) (entries-length w 0 t)
+-- room for k bytes more behind a table
+pub table-room : (w : ℕ) (t : List ℕ) {a b : Text} → Written (table_text w t) a b → length t ≡ 256 → (k : ℕ) → Room (256 * (w + 1) + k) a → Room k b
+table-room w t v l k h =
+    let e = v.behind.end in
+    let n = behind-length v.behind in
+    let m = entries-length w 0 t ∙ ap (λ (x : ℕ). x * (w + 1)) l in
+    omega arith
+
+-- where it ends
+pub table-end : (w : ℕ) (t : List ℕ) {a b : Text} → Written (table_text w t) a b → length t ≡ 256 → b.len ≡ a.len + 256 * (w + 1)
+table-end w t {a = a} v l = v.behind.end ∙ ap (λ (k : ℕ). a.len + k) (entries-length w 0 t ∙ ap (λ (x : ℕ). x * (w + 1)) l)

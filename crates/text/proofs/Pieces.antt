@@ -9,7 +9,8 @@ use borrow.Rule.Slice.PartMut.{put_mid}
 use lib.ListN.{length, take, drop, set, length-append, take-append-drop}
 use lib.Seq.{length-take-le, take_at, drop_at, drop-drop, drop-length}
 use Rattle.buffer.proofs.Fronts.{Front, front_length, front-more, front-store}
-use Rattle.text.specs.Text.{Behind, figure}
+use Rattle.text.specs.Text.{Behind, Room, Written, figure}
+use Rattle.text.specs.declared.Text.{Text}
 use Rattle.text.proofs.Digits.{figure-most}
 
 -- ---- a piece with the first at bytes before it
@@ -123,3 +124,21 @@ gather-length {rest = rest} g = let e = g.behind.end in omega (arith, length-app
 pub behind-full : {p before out : List ℕ} {r : ℕ} → Behind p 0 before out r → r ≡ length before → out ≡ p
 behind-full {p} {before} b e =
     b.is ∙ ap (λ (x : List ℕ). p ++ x) (ap (λ (k : ℕ). drop k before) e ∙ drop-length before) ∙ append-nil p
+
+-- ---- pieces put behind a text
+
+-- one behind the other
+pub written-more : {p q : List ℕ} {a b c : Text} → Written p a b → Written q b c → Written (p ++ q) a c
+written-more w v = record { same = v.same ∙ w.same; behind = behind_more w.behind v.behind }
+
+-- room for k bytes more behind a figure
+pub written-room : {a b : Text} (n e : ℕ) → Written (figure n e) a b → (k : ℕ) → Room (21 + k) a → Room k b
+written-room n e w k h = figure-room n e w.behind k h
+
+-- nothing was put
+pub written-none : {a : Text} → a.len ≤ length a.out.now → Written [] a a
+written-none h = record { same = refl; behind = behind-none h }
+
+-- a text that ended at byte at of a buffer
+pub written-at : {p before : List ℕ} {a b : Text} {at : ℕ} → a.len ≡ at → a.out.now ≡ before → Written p a b → Behind p at before b.out.now b.len
+written-at {p} {a = a} {b} {at} e f w = subst (λ (s : List ℕ). Behind p at s b.out.now b.len) f (subst (λ (k : ℕ). Behind p k a.out.now b.out.now b.len) e w.behind)

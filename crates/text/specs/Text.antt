@@ -2,6 +2,7 @@
 -- Assumes nothing.
 use Rattle.std.specs.Prelude.{◌≡◌, List, [], ◌∷◌, ◌++◌, ℕ, zero, suc, ◌+◌, ◌/◌, ◌%◌, ◌≤◌, ltb, length, take, drop}
 use Rattle.words.specs.Tests.{pick}
+use Rattle.text.specs.declared.Text.{Text}
 
 -- ---- numbers
 
@@ -31,3 +32,12 @@ pub record Behind (p : List ℕ) (at : ℕ) (before out : List ℕ) (r : ℕ) : 
   pub end : r ≡ at + length p
   pub fits : r ≤ length before
   pub is : out ≡ (take at before ++ p) ++ drop r before
+
+-- there is room for k bytes behind a text
+abbrev pub Room : ℕ → Text → Type 0
+Room k t = t.len + k ≤ length t.out.now
+
+-- p was put behind a text, in the same buffer
+pub record Written (p : List ℕ) (old new : Text) : Type 0 where
+  pub same : new.out.ghost_name ≡ old.out.ghost_name
+  pub behind : Behind p old.len old.out.now new.out.now new.len

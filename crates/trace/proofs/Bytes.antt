@@ -10,6 +10,7 @@ use lib.Dec.{eqb, leb}
 use lib.ListN.{length, get_or, take, drop, length-take, length-drop}
 use lib.Seq.{ext_get_or, get_or-take, get_or-drop}
 use borrow.Author.Tests.{eqb-true, lt-leb, le-leb, le-ltb}
+use Rattle.std.specs.Prelude.{Result, Ok, Err}
 use Rattle.words.specs.Strings.{word_at}
 use Rattle.words.specs.Tests.{both, pick}
 use Rattle.card_sizes.specs.Sizes.{key_length, iv_length, tray_iv, own_key, own_iv, change_iv, change_at, start_iv}
@@ -17,12 +18,9 @@ use Rattle.ciphers.specs.Table.{cipher_at, all_zero}
 use Rattle.ciphers.proofs.Numbers.{Reads, reads, reads_none, byte_reads}
 use Rattle.ciphers.proofs.Rows.{key_fits, iv-fits}
 use Rattle.command.specs.declared.Cipher.{Cipher}
-use Rattle.command.specs.declared.CipherRead.{CipherRead}
-use Rattle.command.specs.declared.CipherRead.TheVariants.{Is, Unknown}
 use Rattle.command.specs.declared.Command.{Command}
 use Rattle.command.specs.declared.Command.TheVariants.{Tray, Own, Crypt, Park, Resume, Close, Change, Load, Start}
-use Rattle.command.specs.declared.Decoded.{Decoded}
-use Rattle.command.specs.declared.Decoded.TheVariants.{Run, Refused}
+use Rattle.command.specs.declared.Refusal.{Refusal}
 use Rattle.command.specs.Rows.{either}
 use Rattle.command.specs.Decode.{number_of, read_of, with_cipher, open_of, crypt_of, change_of, Form, forms, read_in, refused_if, unread, command_of, decode_of, Operands, operands_of}
 use Rattle.command.proofs.Rows.{by_rows}
@@ -69,28 +67,28 @@ rest-same x y at n size e h =
 
 -- ---- a command that is read has the operands that stand in its bytes
 
-data Spells (s : List ℕ) : Decoded → Type 0 where
-  spells-number : {k : ℕ} → Spells s (Refused k)
-  spells-run : {c : Command} → operands_of c ≡ operands_at s → Spells s (Run c)
+data Spells (s : List ℕ) : Result Command Refusal → Type 0 where
+  spells-number : {e : Refusal} → Spells s (Err e)
+  spells-run : {c : Command} → operands_of c ≡ operands_at s → Spells s (Ok c)
 
 data AllSpell (s : List ℕ) : List Form → Type 0 where
   none-spells : AllSpell s []
   each-spells : {f : Form} {fs : List Form} → (get_or s 0 0 ≡ f.kind → Spells s (f.read s)) → AllSpell s fs → AllSpell s (f ∷ fs)
 
 module _ (s : List ℕ) where
-  of-kind : (k : ℕ) {c : Command} → get_or s 0 0 ≡ k → operands_of c ≡ operands_for k s → Spells s (Run c)
+  of-kind : (k : ℕ) {c : Command} → get_or s 0 0 ≡ k → operands_of c ≡ operands_for k s → Spells s (Ok c)
   of-kind k e h = spells-run (h ∙ ap (λ (x : ℕ). operands_for x s) (sym e))
 
-  spells-cipher : (f : Cipher → Decoded) → ((c : Cipher) → number_of c ≡ get_or s 2 0 → Spells s (f c)) → Spells s (with_cipher (read_of (get_or s 2 0)) f)
+  spells-cipher : (f : Cipher → Result Command Refusal) → ((c : Cipher) → number_of c ≡ get_or s 2 0 → Spells s (f c)) → Spells s (with_cipher (read_of (get_or s 2 0)) f)
   spells-cipher f h = by (read_of (get_or s 2 0)) (byte_reads (get_or s 2 0))
     where
-      by : (r : CipherRead) → Reads (get_or s 2 0) r → Spells s (with_cipher r f)
-      by (Is c) (reads e t) = h c (sym e)
-      by Unknown (reads_none t) = spells-number
+      by : (r : Result Cipher Refusal) → Reads (get_or s 2 0) r → Spells s (with_cipher r f)
+      by (Ok c) (reads e t) = h c (sym e)
+      by (Err e) (reads_none t) = spells-number
 
-  spells-row : (b : Bool) (k : ℕ) (d : Decoded) → (b ≡ false → Spells s d) → Spells s (refused_if b k d)
-  spells-row true k d h = spells-number
-  spells-row false k d h = h refl
+  spells-row : (b : Bool) (e : Refusal) (d : Result Command Refusal) → (b ≡ false → Spells s d) → Spells s (refused_if b e d)
+  spells-row true e d h = spells-number
+  spells-row false e d h = h refl
 
   forms-spell : AllSpell s forms
   unfolding open_of crypt_of change_of
@@ -111,12 +109,12 @@ module _ (s : List ℕ) where
 
   spelt : Spells s (decode_of s)
   unfolding decode_of command_of
-  spelt = by_rows (Spells s) refused_if (λ k. true) (λ b k d _ h. spells-row b k d h) (unread s) _ tt (λ _. spells-in forms forms-spell)
+  spelt = by_rows (Spells s) refused_if (λ e. true) (λ b e d _ h. spells-row b e d h) (unread s) _ tt (λ _. spells-in forms forms-spell)
 
-  read-operands : (c : Command) → decode_of s ≡ Run c → operands_of c ≡ operands_at s
+  read-operands : (c : Command) → decode_of s ≡ Ok c → operands_of c ≡ operands_at s
   read-operands c e = told (subst (Spells s) e spelt)
     where
-      told : Spells s (Run c) → operands_of c ≡ operands_at s
+      told : Spells s (Ok c) → operands_of c ≡ operands_at s
       told (spells-run h) = h
 
 -- ---- the kinds that bring a key or an IV
@@ -219,20 +217,20 @@ module _ (m : Machine) (a b : Call) {more more' : List Call} (h : AlikeFrom m (a
       let high = same_word 7 e change_at (λ j q. free j q) in
       let low = same_word 7 e (change_at + 4) (λ j q. free j (omega (arith, q))) in
       let key = same_byte 7 e 2 refl in
-      λ j. Run (Change (line-is j) (key j) (high j * 2 ^ 32 + low j))
+      λ j. Ok (Change (line-is j) (key j) (high j * 2 ^ 32 + low j))
 
   forms-same : AllSame x y forms
   unfolding open_of crypt_of
   forms-same =
-      each_same (λ e. let k = same_byte 1 e 2 refl in let n = same_byte 1 e 3 refl in λ j. with_cipher (read_of (k j)) (λ c. Run (Tray (line-is j) c (n j))))
-      (each_same (λ e. let k = same_byte 2 e 2 refl in λ j. with_cipher (read_of (k j)) (λ c. Run (Own (line-is j) c)))
-      (each_same (λ e. let h = same_byte 3 e 2 refl in let l = same_byte 3 e 3 refl in λ j. Run (Crypt (line-is j) (h j * 256 + l j)))
-      (each_same (λ e. λ j. Run (Park (line-is j)))
-      (each_same (λ e. λ j. Run (Resume (line-is j)))
-      (each_same (λ e. λ j. Run (Close (line-is j)))
+      each_same (λ e. let k = same_byte 1 e 2 refl in let n = same_byte 1 e 3 refl in λ j. with_cipher (read_of (k j)) (λ c. Ok (Tray (line-is j) c (n j))))
+      (each_same (λ e. let k = same_byte 2 e 2 refl in λ j. with_cipher (read_of (k j)) (λ c. Ok (Own (line-is j) c)))
+      (each_same (λ e. let h = same_byte 3 e 2 refl in let l = same_byte 3 e 3 refl in λ j. Ok (Crypt (line-is j) (h j * 256 + l j)))
+      (each_same (λ e. λ j. Ok (Park (line-is j)))
+      (each_same (λ e. λ j. Ok (Resume (line-is j)))
+      (each_same (λ e. λ j. Ok (Close (line-is j)))
       (each_same same-change
-      (each_same (λ e. let k = same_byte 8 e 2 refl in let n = same_byte 8 e 3 refl in λ j. with_cipher (read_of (k j)) (λ c. Run (Load (line-is j) c (n j))))
-      (each_same (λ e. λ j. Run (Start (line-is j))) none-same))))))))
+      (each_same (λ e. let k = same_byte 8 e 2 refl in let n = same_byte 8 e 3 refl in λ j. with_cipher (read_of (k j)) (λ c. Ok (Load (line-is j) c (n j))))
+      (each_same (λ e. λ j. Ok (Start (line-is j))) none-same))))))))
 
   same_in : (fs : List Form) → AllSame x y fs → read_in fs (get_or x 0 0) x ≡ read_in fs (get_or x 0 0) y
   same_in [] none-same = refl

@@ -7,12 +7,12 @@ use Prim.Native.Nat.{ℕ, ◌+◌, ◌-◌}
 use native.Mathlib.Omega.{arith}
 use lib.Dec.{eqb}
 use lib.ListN.{length, take, set, length-take}
+use Rattle.std.specs.Prelude.{Result, Ok, Err}
 use Rattle.words.specs.Tests.{pick}
 use Rattle.card_moves.specs.Moves.{comes_due}
 use Rattle.command.specs.declared.Command.{Command}
 use Rattle.command.specs.declared.Command.TheVariants.{Tray, Own, Crypt, Park, Resume, Close, Change, Load, Start}
-use Rattle.command.specs.declared.Decoded.{Decoded}
-use Rattle.command.specs.declared.Decoded.TheVariants.{Run, Refused}
+use Rattle.command.specs.declared.Refusal.{Refusal}
 use Rattle.command.specs.Rows.{Row, unless}
 use Rattle.command.specs.Decode.{decode_of, operands_of}
 use Rattle.machine.specs.Machine.{MLine, Line, Machine, line_at, with_line, idle, shown, opened, loaded_line, started_line, along, renewed, moved, changed, image_of, image_length, Call, View, view_of, Public, public, view_at, Facts, facts_of, Effect, refuse, put, crypt, park, change, start, refuse_if, refusals, effect_of, decided, of_decoded, decide, Stepped, perform, step, shows, seen}
@@ -62,15 +62,15 @@ module _ (v : Public) (a b : Call) where
       subst (λ (x : Facts). SameEffect a.text b.text (decided c v a) (unless refuse_if (refusals (operands_of c) v x) (effect_of c v b))) e
       (rows a.text b.text (refusals (operands_of c) v (facts_of (operands_of c) v a)) (same_effect c f (ap (λ (x : Facts). x.text_count) e)))
 
-  same-decoded : (d : Decoded) → ((c : Command) → d ≡ Run c → facts_of (operands_of c) v a ≡ facts_of (operands_of c) v b) → ((i : ℕ) → d ≡ Run (Resume i) → ⊥) →
+  same-decoded : (d : Result Command Refusal) → ((c : Command) → d ≡ Ok c → facts_of (operands_of c) v a ≡ facts_of (operands_of c) v b) → ((i : ℕ) → d ≡ Ok (Resume i) → ⊥) →
       SameEffect a.text b.text (of_decoded d v a) (of_decoded d v b)
-  same-decoded (Refused k) s f = same-refuse
-  same-decoded (Run c) s f = same-decided c (λ i e. f i (ap Run e)) (s c refl)
+  same-decoded (Err e) s f = same-refuse
+  same-decoded (Ok c) s f = same-decided c (λ i e. f i (ap Ok e)) (s c refl)
 
   same-decide : Shares v a b → SameEffect a.text b.text (decide v a) (decide v b)
   unfolding decide
   same-decide h =
-      subst (λ (d : Decoded). SameEffect a.text b.text (of_decoded (decode_of a.command) v a) (of_decoded d v b)) h.read
+      subst (λ (d : Result Command Refusal). SameEffect a.text b.text (of_decoded (decode_of a.command) v a) (of_decoded d v b)) h.read
       (same-decoded (decode_of a.command) h.facts h.no-resume)
 
 -- ---- what is public of a line

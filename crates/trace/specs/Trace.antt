@@ -1,13 +1,12 @@
 -- What a trace shows of a list of calls, and when two lists are alike but for data, keys and IVs (document 02, (vi)).
 -- Assumes nothing.
-use Rattle.std.specs.Prelude.{◌≡◌, Bool, true, false, List, [], ◌∷◌, map, ℕ, ◌+◌, ◌*◌, ◌^◌, eqb, leb, ltb, length, get_or, take, drop}
+use Rattle.std.specs.Prelude.{◌≡◌, Bool, true, false, List, [], ◌∷◌, map, ℕ, ◌+◌, ◌*◌, ◌^◌, eqb, leb, ltb, length, get_or, take, drop, Ok}
 use Rattle.words.specs.Strings.{word_at}
 use Rattle.words.specs.Tests.{both, pick}
 use Rattle.card_sizes.specs.Sizes.{tray_iv, own_key, own_iv, change_iv, change_at, start_iv}
 use Rattle.ciphers.specs.Table.{cipher_at}
 use Rattle.command.specs.declared.Command.{Command}
 use Rattle.command.specs.declared.Command.TheVariants.{Resume}
-use Rattle.command.specs.declared.Decoded.TheVariants.{Run}
 use Rattle.command.specs.Rows.{either, among}
 use Rattle.command.specs.Decode.{Operands, decode_of, operands_of}
 use Rattle.machine.specs.Machine.{Line, Seen, Machine, Call, View, Public, public, from_tray, takes_iv, key_field, cipher_for, blank_key, facts_of, step, fresh_machine}
@@ -106,8 +105,8 @@ AlikeLists calls calls' = AlikeFrom fresh_machine calls calls'
 -- Two calls before which v is public: the command that is read is the same, and no resume, and so is all that a decision reads of the call.
 pub record Shares (v : Public) (a b : Call) : Type 0 where
   pub read : decode_of a.command ≡ decode_of b.command
-  pub facts : (c : Command) → decode_of a.command ≡ Run c → facts_of (operands_of c) v a ≡ facts_of (operands_of c) v b
-  pub no-resume : (i : ℕ) → decode_of a.command ≡ Run (Resume i) → ⊥
+  pub facts : (c : Command) → decode_of a.command ≡ Ok c → facts_of (operands_of c) v a ≡ facts_of (operands_of c) v b
+  pub no-resume : (i : ℕ) → decode_of a.command ≡ Ok (Resume i) → ⊥
 
 pub data AllShare : Machine → List Call → List Call → Type 0 where
   none : {m : Machine} → AllShare m [] []

@@ -2,7 +2,9 @@
 -- Assumes nothing.
 use mathlib.Core.Path.{◌≡◌, refl, ap, sym, ◌∙◌}
 use mathlib.Core.Bool.{Bool, true, false, not}
-use mathlib.Core.List.{List}
+use mathlib.Core.List.{List, [], ◌∷◌}
+use Rattle.std.proofs.Common.{map, ◌||◌}
+use Rattle.std.specs.List.{list_any}
 use Prim.Native.Nat.{ℕ, zero, suc, ◌+◌, ◌-◌, ◌/◌, ◌%◌, ◌<◌, ◌≤◌, ◌^◌}
 use native.Mathlib.Omega.{arith}
 use lib.Dec.{eqb, leb, ltb}
@@ -13,9 +15,8 @@ use Rattle.words.proofs.Tests.{both_true, both_false}
 use Rattle.command.specs.Rows.{code_of, either}
 use Rattle.command.proofs.Rows.{code-passed}
 use Rattle.ciphers.specs.Table.{is_cipher}
-use Rattle.records.specs.Records.{use_at, uses_at, uses}
+use Rattle.records.specs.Records.{said, use_at, uses}
 use Rattle.traffic.specs.Traffic.{sum_of, every, unknown, any_unknown, sheet_rows}
-use Rattle.traffic.proofs.Sums.{Left, left-all, left-next, left-none}
 
 -- ---- a record
 
@@ -47,27 +48,15 @@ module _ (s : List ℕ) (at : ℕ) where
 
 -- ---- all records
 
-pub looking-all : (s : List ℕ) → Left any_unknown (any_unknown (uses s)) s (length s / 10) 0
-looking-all s = left-all any_unknown s refl
-
-module _ {whole : Bool} {s : List ℕ} {left at : ℕ} (k : Left any_unknown whole s left at) where
-  looking-next : 0 < left → either (unknown (use_at s at)) (any_unknown (uses_at (left - 1) s (at + 10))) ≡ whole
-  unfolding any_unknown
-  looking-next h = left-next k h
-
-  pub looking-on : 0 < left → unknown (use_at s at) ≡ false → Left any_unknown whole s (left - 1) (at + 10)
-  looking-on h e =
-      record {
-        within = omega (arith, k.within);
-        rest = sym (ap (λ (b : Bool). either b (any_unknown (uses_at (left - 1) s (at + 10)))) e) ∙ looking-next h;
-      }
-
-  pub looking-found : 0 < left → unknown (use_at s at) ≡ true → true ≡ whole
-  looking-found h e = sym (ap (λ (b : Bool). either b (any_unknown (uses_at (left - 1) s (at + 10)))) e) ∙ looking-next h
-
-  pub looking-none : left ≤ 0 → false ≡ whole
-  unfolding any_unknown
-  looking-none h = left-none k h
+-- a test of what a record says, as `any` gives it
+pub any-said : (rs : List (List ℕ)) → list_any (λ r. unknown (said r)) rs ≡ any_unknown (map said rs)
+unfolding any_unknown
+any-said [] = refl
+any-said (r ∷ rs) = ap (λ (b : Bool). unknown (said r) || b) (any-said rs) ∙ same (unknown (said r)) (any_unknown (map said rs))
+  where
+    same : (a b : Bool) → (a || b) ≡ either a b
+    same true b = refl
+    same false b = refl
 
 -- ---- the rows
 

@@ -1,11 +1,14 @@
 -- What records come to: the bytes of those that pass a test, summed; and which records no sheet is made of, with the numbers 20 to 22.
 -- Assumes nothing.
-use Rattle.std.specs.Prelude.{◌≡◌, Bool, true, false, not, List, [], ◌∷◌, ℕ, zero, suc, ◌+◌, ◌%◌, ◌^◌, eqb, leb, ltb, length}
+use Rattle.std.specs.Prelude.{◌≡◌, Bool, true, false, not, List, [], ◌∷◌, ℕ, zero, suc, ◌+◌, ◌%◌, ◌^◌, eqb, leb, ltb, length, Option, Some, None, Result, Ok, Err}
 use Rattle.words.specs.Tests.{pick}
 use Rattle.command.specs.Rows.{Row, ◌when◌, either}
 use Rattle.ciphers.specs.Table.{is_cipher}
 use Rattle.records.specs.Records.{Use, uses}
-use Rattle.traffic.specs.declared.Added.{Added}
+use Rattle.traffic.specs.declared.Column.{Column}
+use Rattle.traffic.specs.declared.Column.TheVariants.{Line, Cipher}
+use Rattle.traffic.specs.declared.SheetRefusal.{SheetRefusal}
+use Rattle.traffic.specs.declared.SheetRefusal.TheVariants.{Length, Unknown, Total}
 
 -- ---- sums
 
@@ -52,7 +55,26 @@ abbrev pub in_column : ℕ → ℕ → Use → Bool
 in_column zero = on_line
 in_column (suc c) = by_cipher
 
--- the sum of all records, where it is below 2^64
-pub record Totals (all : ℕ) (r : Added) : Type 0 where
-  pub over-is : r.over ≡ leb (2 ^ 64) all
-  pub sum_is : r.over ≡ false → r.sum ≡ all
+-- the column's number
+abbrev pub column_number : Column → ℕ
+column_number Line = 0
+column_number Cipher = 1
+
+-- what stands in it
+abbrev pub column_value : Column → Use → ℕ
+column_value Line u = u.line
+column_value Cipher u = u.cipher
+
+-- a sum, where it is below 2^64
+abbrev pub total_of : ℕ → Option ℕ
+total_of all = pick (leb (2 ^ 64) all) None (Some all)
+
+-- the number of a refusal, and 0 of a total
+abbrev pub sheet_number : SheetRefusal → ℕ
+sheet_number Length = 20
+sheet_number Unknown = 21
+sheet_number Total = 22
+
+abbrev pub code_given : {A : Type 0} → Result A SheetRefusal → ℕ
+code_given (Ok _) = 0
+code_given (Err r) = sheet_number r

@@ -1,121 +1,117 @@
 // What the records of use.bin come to, which stand in one borrowed buffer: sums over the records of a line, of a cipher and over all, and
-// the number that a sheet of them is refused with.
+// what a sheet of them is refused for.
 // The caller must ensure only what a `requires` names: a sum of some records needs a total below 2^64.
 #![tactic(auto)]
 
-ghost use Rattle.std.specs.Prelude.{◌≡◌, ◌+◌, ◌≤◌, ◌<◌, ◌^◌, length};
-ghost use Rattle.words.specs.Tests.{pick};
+ghost use Rattle.std.specs.Prelude.{◌≡◌, ◌<◌, ◌^◌, length, IfOk};
 ghost use Rattle.command.specs.Rows.{code_of};
-ghost use Rattle.records.specs.Records.{use_at, uses};
-ghost use Rattle.traffic.specs.Traffic.{sum_of, every, unknown, any_unknown, sheet_rows, in_column, Totals};
+ghost use Rattle.records.specs.Records.{said, uses};
+ghost use Rattle.traffic.specs.Traffic.{sum_of, every, unknown, any_unknown, sheet_rows, in_column, column_number, column_value, total_of, sheet_number, code_given};
+ghost use Rattle.words.specs.Tests.{pick};
 
-use records::{RECORD, bytes_at};
+use records::{RECORD, bytes_of};
 
 // A sheet takes so many bytes of records.
 pub const MOST: usize = 40960;
 
-// The sum of all records, and whether it is 2^64 or more; then the sum is 0.
-#[derive(Clone, Copy)]
-pub struct Added {
-    pub over: bool,
-    pub sum: u64,
+// What a record is counted by.
+#[derive(Clone, Copy, Debug, PartialEq, Eq)]
+pub enum Column {
+    Line,
+    Cipher,
 }
 
-// Whether the record from byte at on is of a line or of a cipher that there is not.
-fn unknown_at(s: &[u8], at: usize) -> bool
-    requires { at + 10 ≤ length s.now }
-    ensures { result ≡ unknown (use_at s.now at) }
+impl Column {
+    // What a record has there.
+    #[tactic(auto, unfolding(records::specs::Records::use_at))]
+    fn of(self, record: &[u8; RECORD]) -> u8
+        ensures { result ≡ column_value self (said record.now) }
+    {
+        let [line, cipher, ..] = *record;
+        match self {
+            Column::Line => line,
+            Column::Cipher => cipher,
+        }
+    }
+}
+
+// What no sheet is made of: no whole number of records or too many, a line or a cipher that there is not, a total of 2^64 or more.
+#[derive(Clone, Copy, Debug, PartialEq, Eq)]
+pub enum SheetRefusal {
+    Length = 20,
+    Unknown = 21,
+    Total = 22,
+}
+
+impl SheetRefusal {
+    // The number that is printed.
+    pub fn number(self) -> u8
+        ensures { result ≡ sheet_number self }
+    {
+        self as u8
+    }
+}
+
+// Whether a record is of a line or of a cipher that there is not.
+fn is_unknown(record: &[u8; RECORD]) -> bool
+    ensures { result ≡ unknown (said record.now) }
 {
-    let line = s[at];
-    let cipher = s[at + 1];
-    if line > 7 {
-        return true;
-    }
-    if cipher == 0 {
-        return true;
-    }
-    cipher > 6
+    let [line, cipher, ..] = *record;
+    line > 7 || cipher == 0 || cipher > 6
 }
 
 // Whether any record is.
 fn any_unknown(s: &[u8]) -> bool
     ensures { result ≡ any_unknown (uses s.now) }
 {
-    let mut left = s.len() / RECORD;
-    let mut at: usize = 0;
-    while left > 0 {
-        if unknown_at(s, at) {
-            return true;
-        }
-        at += RECORD;
-        left -= 1;
-    }
-    false
+    records::all(s).iter().any(|record| is_unknown(record))
 }
 
-// The sum of all records.
-pub fn total(s: &[u8]) -> Added
-    ensures { Totals (sum_of every (uses s.now)) result }
+// The sum of all records, where it is below 2^64.
+pub fn total(s: &[u8]) -> Option<u64>
+    ensures { result ≡ total_of (sum_of every (uses s.now)) }
 {
     let mut sum: u64 = 0;
-    let mut left = s.len() / RECORD;
-    let mut at: usize = 0;
-    while left > 0 {
-        let n = bytes_at(s, at);
-        if n > 18446744073709551615 - sum {
-            return Added { over: true, sum: 0 };
-        }
-        sum += n;
-        at += RECORD;
-        left -= 1;
+    for record in records::all(s) {
+        sum = sum.checked_add(bytes_of(record))?;
     }
-    Added { over: false, sum }
+    Some(sum)
 }
 
-// The bytes of the record from byte at on where it has v in column c, else 0.
-fn counted_at(s: &[u8], at: usize, c: usize, v: u8) -> u64
-    requires { (c ≤ 1) × (at + 10 ≤ length s.now) }
-    ensures { result ≡ pick (in_column c v (use_at s.now at)) (use_at s.now at).bytes 0 }
+// The bytes of a record that has v in a column, else 0.
+fn counted(record: &[u8; RECORD], column: Column, v: u8) -> u64
+    ensures { result ≡ pick (in_column (column_number column) v (said record.now)) (said record.now).bytes 0 }
 {
-    if s[at + c] != v {
-        return 0;
+    if column.of(record) == v {
+        bytes_of(record)
+    } else {
+        0
     }
-    bytes_at(s, at)
 }
 
-// The sum of the records that have v in column c: 0 is the line, 1 the cipher.
-pub fn sum(s: &[u8], c: usize, v: u8) -> u64
-    requires { (c ≤ 1) × (sum_of every (uses s.now) < 2 ^ 64) }
-    ensures { result ≡ sum_of (in_column c v) (uses s.now) }
+// The sum of the records that have v in a column.
+pub fn sum(s: &[u8], column: Column, v: u8) -> u64
+    requires { sum_of every (uses s.now) < 2 ^ 64 }
+    ensures { result ≡ sum_of (in_column (column_number column) v) (uses s.now) }
 {
     let mut sum: u64 = 0;
-    let mut left = s.len() / RECORD;
-    let mut at: usize = 0;
-    while left > 0 {
-        sum += counted_at(s, at, c, v);
-        at += RECORD;
-        left -= 1;
+    for record in records::all(s) {
+        sum += counted(record, column, v);
     }
     sum
 }
 
-// The number that a sheet of these records is refused with: 20, 21, 22, or 0.
-pub fn sheet_code(s: &[u8]) -> u8
-    ensures { result ≡ code_of (sheet_rows s.now) }
+// The total of a sheet of these records, or what it is refused for.
+pub fn judge(s: &[u8]) -> Result<u64, SheetRefusal>
+    ensures code { code_given result ≡ code_of (sheet_rows s.now) }
+    ensures total { IfOk result (λ n. n ≡ sum_of every (uses s.now)) }
 {
     let n = s.len();
-    if n % RECORD != 0 {
-        return 20;
-    }
-    if n > MOST {
-        return 20;
+    if n % RECORD != 0 || n > MOST {
+        return Err(SheetRefusal::Length);
     }
     if any_unknown(s) {
-        return 21;
+        return Err(SheetRefusal::Unknown);
     }
-    let all = total(s);
-    if all.over {
-        return 22;
-    }
-    0
+    total(s).ok_or(SheetRefusal::Total)
 }

@@ -87,7 +87,7 @@ done =
 
 -- the machine is run: they did so, and the second resume was answered 14
 pub ran : (map did xs ≡ done) × (map (λ x. x.code) xs ≡ 0 ∷ 0 ∷ 0 ∷ 0 ∷ 0 ∷ 0 ∷ 14 ∷ 0 ∷ 0 ∷ 0 ∷ [])
-unfolding xs calls done lent key_of image step decide decode_of command_of length_of read_of open_of crypt_of change_of decided refuse_if spare_used blank_key view_of comes_due position_on unit_at state_of byte_of shown based opened loaded_line started_line changed moved along renewed xored enciphered xor_from state_at byte_at image_of image_line image_from image_number state_ok no_more number_now parked holds taken kept_of start_of cipher_at zuc rabbit snow128 snow256 kcipher2 mugi word_at bytes_of shifted iter zuc_words zuc_state gen sub1 sub2 d Z.l1 Z.l2 Z.ss Z.w Z.weighed Z.mended Z.fed Z.fed_init Z.next_r1 Z.next_r2 Z.clocked Z.next Z.next_init Z.strm Z.loaded Z.init Z.unit
+unfolding xs calls done lent key_of image step decide decode_of command_of length_of read_of open_of crypt_of change_of decided refuse_if spare_used blank_key view_of comes_due position_on unit_at state_of byte_of shown based opened loaded_line started_line changed moved along renewed xored enciphered xor_from state_at byte_at image_of image_line image_from image_number state_ok no_more number_now parked holds taken kept_of start_of cipher_at zuc rabbit snow128 snow256 kcipher2 mugi word_at bytes_of shifted iter zuc_words zuc_state sub1 sub2 d Z.l1 Z.l2 Z.ss Z.w Z.weighed Z.mended Z.fed Z.fed_init Z.next_r1 Z.next_r2 Z.clocked Z.next Z.next_init Z.strm Z.loaded Z.init Z.unit
 ran = (refl, refl)
 
 -- ---- the bytes that were used

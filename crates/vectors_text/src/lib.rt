@@ -1,6 +1,9 @@
-// What the program prints: lines, hexadecimal words, blocks and bytes, and the time of a state.
+// What the program prints: lines, hexadecimal words, blocks and bytes, the units of a keystream, and the time of a state.
 #![tactic(auto)]
 
+ghost use Rattle.std.specs.Prelude.{◌<◌, ◌^◌};
+
+use keystream::Generator;
 use std::io::Stdout;
 
 // What standard output does not take is lost.
@@ -30,10 +33,17 @@ pub fn remark(stdout: Stdout, s: &[u8]) {
     line(stdout, b"]");
 }
 
-pub fn word(stdout: Stdout, w: u32) {
-    let mut digits = [0u8; 8];
-    hex_text::fill(w as u64, &mut digits);
+// The last N hexadecimal digits of n.
+fn digits<const N: usize>(stdout: Stdout, n: u64)
+    requires { N < 2 ^ 63 }
+{
+    let mut digits = [0u8; N];
+    hex_text::fill(n, &mut digits);
     put(stdout, &digits);
+}
+
+pub fn word(stdout: Stdout, w: u32) {
+    digits::<8>(stdout, w as u64);
 }
 
 // A space and a word.
@@ -43,29 +53,26 @@ pub fn cell(stdout: Stdout, w: u32) {
 }
 
 pub fn block(stdout: Stdout, x: u64) {
-    let mut digits = [0u8; 16];
-    hex_text::fill(x, &mut digits);
-    put(stdout, &digits);
+    digits::<16>(stdout, x);
 }
 
-// A word of Rabbit's keystream, whose first byte is its lowest.
-fn word_up(stdout: Stdout, w: u32) {
-    word(
-        stdout,
-        words::join(
-            (w % 256) as u8,
-            (w / 256 % 256) as u8,
-            (w / 65536 % 256) as u8,
-            (w / 16777216 % 256) as u8,
-        ),
-    );
+// The bytes of the unit of s, from its first on.
+fn unit<G: Generator>(stdout: Stdout, s: G) {
+    for i in 0..G::UNIT {
+        let mut z = [0u8; 1];
+        s.put_part(i, 1, &[0u8], &mut z);
+        digits::<2>(stdout, z[0] as u64);
+    }
 }
 
-pub fn unit_up(stdout: Stdout, z: [u32; 4]) {
-    word_up(stdout, z[0]);
-    word_up(stdout, z[1]);
-    word_up(stdout, z[2]);
-    word_up(stdout, z[3]);
+// A line of as many units of a keystream, the first that of the state from; of none, the end of the line only.
+pub fn units<G: Generator>(stdout: Stdout, from: G, count: usize) {
+    let mut s = from;
+    for _ in 0..count {
+        unit(stdout, s);
+        s = s.step();
+    }
+    end(stdout);
 }
 
 // A space and a word with its name.
@@ -96,19 +103,19 @@ pub fn listing(stdout: Stdout, name: &[u8], i: usize) {
 }
 
 // The value of a hexadecimal digit, and 0 of any other byte.
-fn digit(c: u8) -> u8 {
-    if b'0' <= c && c <= b'9' {
-        return c - b'0';
+fn digit(c: u8) -> u8
+    ensures { result < 16 }
+{
+    match c {
+        b'0'..=b'9' => c - b'0',
+        b'a'..=b'f' => c - b'a' + 10,
+        _ => 0,
     }
-    if b'a' <= c && c <= b'f' {
-        return c - b'a' + 10;
-    }
-    0
 }
 
 // The byte of two hexadecimal digits.
 fn byte(a: u8, b: u8) -> u8 {
-    (digit(a) % 16) * 16 + digit(b) % 16
+    digit(a) * 16 + digit(b)
 }
 
 // Byte i of those that s spells, and 0 past the last.
@@ -121,10 +128,8 @@ fn spelt(s: &[u8], i: usize) -> u8 {
 
 // Fills out with the bytes that s spells.
 pub fn unhex(s: &[u8], out: &mut [u8]) {
-    let mut i: usize = 0;
-    while i < out.len() {
-        out[i] = spelt(s, i);
-        i += 1;
+    for (i, byte) in out.iter_mut().enumerate() {
+        *byte = spelt(s, i);
     }
 }
 
@@ -152,20 +157,16 @@ fn numbered(stdout: Stdout, i: usize, w: u32) {
 
 // Sixteen cells, from the top down.
 pub fn register(stdout: Stdout, a: [u32; 16]) {
-    let mut i: usize = 16;
-    while 0 < i {
-        i -= 1;
-        numbered(stdout, i, a[i]);
+    for (i, w) in a.iter().enumerate().rev() {
+        numbered(stdout, i, *w);
     }
 }
 
 // A line of cells.
 pub fn cells(stdout: Stdout, name: &[u8], s: &[u32]) {
     put(stdout, name);
-    let mut i: usize = 0;
-    while i < s.len() {
-        cell(stdout, s[i]);
-        i += 1;
+    for w in s {
+        cell(stdout, *w);
     }
     end(stdout);
 }

@@ -2,8 +2,8 @@
 // The caller must ensure only what a `requires` names: a word that is read lies within the string.
 #![tactic(auto)]
 
-ghost use Rattle.std.specs.Prelude.{◌≡◌, ◌+◌, ◌≤◌, ◌<◌, ◌^◌, length, get_or};
-ghost use Rattle.words.specs.Word.{word, rotl};
+ghost use Rattle.std.specs.Prelude.{◌≡◌, ◌+◌, ◌≤◌, ◌<◌, ◌^◌, length};
+ghost use Rattle.words.specs.Word.{word};
 ghost use Rattle.words.specs.Strings.{word_at, four_at, bytes_of, bytes_up};
 ghost use Rattle.words.specs.Lists.{shifted};
 
@@ -11,17 +11,18 @@ ghost use Rattle.words.specs.Lists.{shifted};
 pub fn wide(x: u8) -> u32
     ensures { (result ≡ x) × (result < 2 ^ 8) }
 {
-    x as u32
+    u32::from(x)
 }
 
 // The word of four bytes, a the most significant.
 pub fn join(a: u8, b: u8, c: u8, d: u8) -> u32
     ensures { result ≡ word a b c d }
 {
-    ((wide(a) * 256 + wide(b)) * 256 + wide(c)) * 256 + wide(d)
+    u32::from_be_bytes([a, b, c, d])
 }
 
 // The word whose first byte, the most significant, is s[at].
+#[tactic(auto, unfolding(crate::specs::Strings::word_at))]
 pub fn word_at(s: &[u8], at: usize) -> u32
     requires { at + 4 ≤ length s.now }
     ensures { result ≡ word_at s.now at }
@@ -30,6 +31,7 @@ pub fn word_at(s: &[u8], at: usize) -> u32
 }
 
 // The four words from s[at] on.
+#[tactic(auto, unfolding(crate::specs::Strings::four_at))]
 pub fn four_at(s: &[u8], at: usize) -> [u32; 4]
     requires { at + 16 ≤ length s.now }
     ensures { result ≡ four_at s.now at }
@@ -42,25 +44,19 @@ pub fn four_at(s: &[u8], at: usize) -> [u32; 4]
 }
 
 // The bytes of w, most significant first.
+#[tactic(auto, unfolding(crate::specs::Strings::bytes_of))]
 pub fn bytes(w: u32) -> [u8; 4]
     ensures { result ≡ bytes_of w }
 {
-    let a = (w / 16777216 % 256) as u8;
-    let b = (w / 65536 % 256) as u8;
-    let c = (w / 256 % 256) as u8;
-    let d = (w % 256) as u8;
-    [a, b, c, d]
+    w.to_be_bytes()
 }
 
 // The bytes of w, least significant first.
+#[tactic(auto, unfolding(crate::specs::Strings::bytes_up))]
 pub fn bytes_up(w: u32) -> [u8; 4]
     ensures { result ≡ bytes_up w }
 {
-    let a = (w % 256) as u8;
-    let b = (w / 256 % 256) as u8;
-    let c = (w / 65536 % 256) as u8;
-    let d = (w / 16777216 % 256) as u8;
-    [a, b, c, d]
+    w.to_le_bytes()
 }
 
 // A register of sixteen words moved by one, with x as its last.
@@ -71,32 +67,4 @@ pub fn shift16(a: [u32; 16], x: u32) -> [u32; 16]
         a[1], a[2], a[3], a[4], a[5], a[6], a[7], a[8], a[9], a[10], a[11], a[12], a[13], a[14],
         a[15], x,
     ]
-}
-
-// Byte i of a table.
-pub fn entry(t: &[u8; 256], i: u8) -> u8
-    ensures { result ≡ get_or t.now i 0 }
-{
-    t[i as usize]
-}
-
-// x <<< 8.
-pub fn rotl8(x: u32) -> u32
-    ensures { result ≡ rotl 8 x }
-{
-    (x << 8) + (x >> 24)
-}
-
-// x <<< 16.
-pub fn rotl16(x: u32) -> u32
-    ensures { result ≡ rotl 16 x }
-{
-    (x << 16) + (x >> 16)
-}
-
-// x <<< 24.
-pub fn rotl24(x: u32) -> u32
-    ensures { result ≡ rotl 24 x }
-{
-    (x << 24) + (x >> 8)
 }

@@ -2,31 +2,18 @@
 // The caller must ensure that text and buffer are as long as what is written.
 #![tactic(auto)]
 
-ghost use Rattle.std.specs.Prelude.{◌≡◌, ◌++◌, min, ◌+◌, ◌≤◌, length, get_or};
+ghost use Rattle.std.specs.Prelude.{◌++◌, ◌+◌, ◌≤◌, length, get_or};
 ghost use Rattle.words.specs.Strings.{bytes_of, bytes_up};
 ghost use Rattle.blocks.specs.Blocks.{spell};
 ghost use Rattle.keystream.specs.Stream.{BytesPut};
-
-pub fn least(a: usize, b: usize) -> usize
-    ensures { result ≡ min a b }
-{
-    if a <= b { a } else { b }
-}
 
 // The first four bytes of text, with the bytes of w, most significant first, go to the start of out.
 pub fn put_word(w: u32, text: &[u8], out: &mut [u8])
     requires { (4 ≤ length text.now) × (4 ≤ length out.old) }
     ensures { BytesPut (bytes_of w) 0 4 text.now out.old out.new }
 {
-    let a = words::wide(text[0]);
-    let b = words::wide(text[1]);
-    let c = words::wide(text[2]);
-    let d = words::wide(text[3]);
-    let y = (((a * 256 + b) * 256 + c) * 256 + d) ^ w;
-    out[0] = (y / 16777216 % 256) as u8;
-    out[1] = (y / 65536 % 256) as u8;
-    out[2] = (y / 256 % 256) as u8;
-    out[3] = (y % 256) as u8;
+    let y = u32::from_be_bytes([text[0], text[1], text[2], text[3]]) ^ w;
+    out[..4].copy_from_slice(&y.to_be_bytes());
 }
 
 // The first four bytes of text, with the bytes of w, least significant first, go to the start of out.
@@ -34,15 +21,8 @@ fn put_word_up(w: u32, text: &[u8], out: &mut [u8])
     requires { (4 ≤ length text.now) × (4 ≤ length out.old) }
     ensures { BytesPut (bytes_up w) 0 4 text.now out.old out.new }
 {
-    let a = words::wide(text[0]);
-    let b = words::wide(text[1]);
-    let c = words::wide(text[2]);
-    let d = words::wide(text[3]);
-    let y = (((d * 256 + c) * 256 + b) * 256 + a) ^ w;
-    out[0] = (y % 256) as u8;
-    out[1] = (y / 256 % 256) as u8;
-    out[2] = (y / 65536 % 256) as u8;
-    out[3] = (y / 16777216 % 256) as u8;
+    let y = u32::from_le_bytes([text[0], text[1], text[2], text[3]]) ^ w;
+    out[..4].copy_from_slice(&y.to_le_bytes());
 }
 
 // The first eight bytes of text, with the bytes of two words, most significant first, go to the start of out.
@@ -86,9 +66,7 @@ pub fn put_part(ks: &[u8], from: usize, count: usize, text: &[u8], out: &mut [u8
     requires { (from + count ≤ length ks.now) × ((count ≤ length text.now) × (count ≤ length out.old)) }
     ensures { BytesPut ks.now from count text.now out.old out.new }
 {
-    let mut i: usize = 0;
-    while i < count {
+    for i in 0..count {
         out[i] = text[i] ^ ks[from + i];
-        i += 1;
     }
 }

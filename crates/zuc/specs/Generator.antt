@@ -4,5 +4,5 @@ use Rattle.zuc.specs.declared.Zuc.{Zuc}
 use Rattle.zuc.specs.Cipher.{next, unit as unit_of}
 use Rattle.keystream.specs.Stream.{Gen}
 
-unfoldable pub gen : Gen Zuc
+abbrev pub gen : Gen Zuc
 gen = record { unit = 4; next = next; strm = unit_of }

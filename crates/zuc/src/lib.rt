@@ -1,12 +1,11 @@
 // ZUC (ISO/IEC 18033-4:2011/Amd 1:2020, 8.6): a state by value, its steps in both modes and its output. Its start from key and IV is in `start`.
-// The caller passes the tables that `zuc_tables` makes by reference.
 #![tactic(auto)]
 
 pub mod start;
+mod units;
 
 ghost use Rattle.std.specs.Prelude.{◌≡◌, ◌+◌, ◌-◌, ◌/◌, ◌%◌, ◌^◌, ◌<◌, ◌≤◌};
-ghost use Rattle.words.specs.Word.{◌∥◌, word, low, high};
-ghost use Rattle.zuc_tables.specs.Tables.{Lent};
+ghost use Rattle.words.specs.Word.{◌∥◌, low, high};
 ghost use Rattle.zuc.specs.Cipher.{l1, l2, ss, cell_high, w as word_w, weighed, mended, next_r1, next_r2, clocked, next, next_init, strm};
 
 // A0..A15, R1 and R2.
@@ -21,39 +20,30 @@ pub struct Zuc {
 fn linear1(x: u32) -> u32
     ensures { result ≡ l1 x }
 {
-    x ^ ((x << 2) + (x >> 30))
-        ^ ((x << 10) + (x >> 22))
-        ^ ((x << 18) + (x >> 14))
-        ^ ((x << 24) + (x >> 8))
+    x ^ x.rotate_left(2) ^ x.rotate_left(10) ^ x.rotate_left(18) ^ x.rotate_left(24)
 }
 
 // L2 of 8.6.6.
 fn linear2(x: u32) -> u32
     ensures { result ≡ l2 x }
 {
-    x ^ ((x << 8) + (x >> 24))
-        ^ ((x << 14) + (x >> 18))
-        ^ ((x << 22) + (x >> 10))
-        ^ ((x << 30) + (x >> 2))
-}
-
-// The word of four bytes, a the most significant. Its halves do not wait for each other.
-fn join(a: u8, b: u8, c: u8, d: u8) -> u32
-    ensures { result ≡ word a b c d }
-{
-    (words::wide(a) * 256 + words::wide(b)) * 65536 + (words::wide(c) * 256 + words::wide(d))
+    x ^ x.rotate_left(8) ^ x.rotate_left(14) ^ x.rotate_left(22) ^ x.rotate_left(30)
 }
 
 // SS of 8.6.5.
-fn substitute(x: u32, t1: &[u8; 256], t2: &[u8; 256]) -> u32
-    requires { Lent t1.now t2.now }
+#[tactic(auto, unfolding(crate::specs::Cipher::ss))]
+fn substitute(x: u32) -> u32
     ensures { result ≡ ss x }
 {
-    let y3 = words::entry(t1, (x / 16777216 % 256) as u8);
-    let y2 = words::entry(t2, (x / 65536 % 256) as u8);
-    let y1 = words::entry(t1, (x / 256 % 256) as u8);
-    let y0 = words::entry(t2, (x % 256) as u8);
-    join(y3, y2, y1, y0)
+    let [x3, x2, x1, x0] = x.to_be_bytes();
+    let t1 = zuc_tables::sub1();
+    let t2 = zuc_tables::sub2();
+    words::join(
+        t1[x3 as usize],
+        t2[x2 as usize],
+        t1[x1 as usize],
+        t2[x0 as usize],
+    )
 }
 
 // The leftmost 16 bits of cell a, then the rightmost 16 of cell b.
@@ -78,22 +68,23 @@ fn cross(a: u32, b: u32) -> u32
 }
 
 // The next R1, of W1 and W2.
-fn next_r1(w1: u32, w2: u32, t1: &[u8; 256], t2: &[u8; 256]) -> u32
-    requires { Lent t1.now t2.now }
+#[tactic(auto, unfolding(crate::specs::Cipher::next_r1))]
+fn next_r1(w1: u32, w2: u32) -> u32
     ensures { result ≡ next_r1 w1 w2 }
 {
-    substitute(linear1(cross(w1, w2)), t1, t2)
+    substitute(linear1(cross(w1, w2)))
 }
 
 // The next R2, of W1 and W2.
-fn next_r2(w1: u32, w2: u32, t1: &[u8; 256], t2: &[u8; 256]) -> u32
-    requires { Lent t1.now t2.now }
+#[tactic(auto, unfolding(crate::specs::Cipher::next_r2))]
+fn next_r2(w1: u32, w2: u32) -> u32
     ensures { result ≡ next_r2 w1 w2 }
 {
-    substitute(linear2(cross(w2, w1)), t1, t2)
+    substitute(linear2(cross(w2, w1)))
 }
 
 // The sum of 8.6.3 c), whose remainder is V, with 2^31 - 1 added: the remainder is the same, and the sum is never 0.
+#[tactic(auto, unfolding(crate::specs::Cipher::weighed))]
 fn weigh(a15: u32, a13: u32, a10: u32, a4: u32, a0: u32) -> u64
     ensures { (result % (2 ^ 31 - 1) ≡ weighed a15 a13 a10 a4 a0) × ((1 ≤ result) × (result < 2 ^ 54)) }
 {
@@ -140,51 +131,54 @@ fn feedback_init(sum: u64, w: u32) -> u32
 
 impl Zuc {
     // W of 8.6.3 b).
+    #[tactic(auto, unfolding(crate::specs::Cipher::w))]
     fn word(self) -> u32
         ensures { result ≡ word_w self }
     {
         let a = self.a;
-        std::num::wrapping_add_u32(high_low(a[15], a[14]) ^ self.r1, self.r2)
+        (high_low(a[15], a[14]) ^ self.r1).wrapping_add(self.r2)
     }
 
     // The next state, with the feedback x.
-    fn clock(self, x: u32, t1: &[u8; 256], t2: &[u8; 256]) -> Zuc
-        requires { Lent t1.now t2.now }
+    #[tactic(auto, unfolding(crate::specs::Cipher::clocked))]
+    fn clock(self, x: u32) -> Zuc
         ensures { result ≡ clocked self x }
     {
         let a = self.a;
-        let w1 = std::num::wrapping_add_u32(self.r1, low_high(a[11], a[9]));
+        let w1 = self.r1.wrapping_add(low_high(a[11], a[9]));
         let w2 = self.r2 ^ low_high(a[7], a[5]);
         let b = words::shift16(a, x);
         Zuc {
             a: b,
-            r1: next_r1(w1, w2, t1, t2),
-            r2: next_r2(w1, w2, t1, t2),
+            r1: next_r1(w1, w2),
+            r2: next_r2(w1, w2),
         }
     }
 
     // A step in INIT mode.
-    pub fn step_init(self, t1: &[u8; 256], t2: &[u8; 256]) -> Zuc
-        requires { Lent t1.now t2.now }
+    #[tactic(auto, unfolding(crate::specs::Cipher::next_init, crate::specs::Cipher::fed_init))]
+    pub fn step_init(self) -> Zuc
         ensures { result ≡ next_init self }
     {
         let a = self.a;
         let w = self.word();
         let x = feedback_init(weigh(a[15], a[13], a[10], a[4], a[0]), w);
-        self.clock(x, t1, t2)
+        self.clock(x)
     }
 
     // The next state.
-    pub fn step(self, t1: &[u8; 256], t2: &[u8; 256]) -> Zuc
-        requires { Lent t1.now t2.now }
+    #[tactic(auto, unfolding(crate::specs::Cipher::next, crate::specs::Cipher::fed))]
+    #[inline(always)]
+    pub fn step(self) -> Zuc
         ensures { result ≡ next self }
     {
         let a = self.a;
         let x = feedback(weigh(a[15], a[13], a[10], a[4], a[0]));
-        self.clock(x, t1, t2)
+        self.clock(x)
     }
 
     // The word of keystream.
+    #[tactic(auto, unfolding(crate::specs::Cipher::strm))]
     pub fn output(self) -> u32
         ensures { result ≡ strm self }
     {

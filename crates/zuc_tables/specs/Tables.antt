@@ -1,6 +1,6 @@
 -- The tables SUB1 and SUB2 of ZUC (document 003, 8.6.5) and its constants D (8.6.1, in document 01's reading).
 -- Assumes nothing.
-use Rattle.std.specs.Prelude.{◌≡◌, List, [], ◌∷◌, ℕ}
+use Rattle.std.specs.Prelude.{List, [], ◌∷◌, ℕ}
 
 -- SUB1
 unfoldable pub sub1 : List ℕ
@@ -46,8 +46,3 @@ sub2 =
 unfoldable pub d : List ℕ
 d =
     0x44d7 ∷ 0x26bc ∷ 0x626b ∷ 0x135e ∷ 0x5789 ∷ 0x35e2 ∷ 0x7135 ∷ 0x09af ∷ 0x4d78 ∷ 0x2f13 ∷ 0x6bc4 ∷ 0x1af1 ∷ 0x5e26 ∷ 0x3c4d ∷ 0x789a ∷ 0x47ac ∷ []
-
--- t1 and t2 are lent as SUB1 and SUB2
-pub record Lent (t1 t2 : List ℕ) : Type 0 where
-  pub is-sub1 : t1 ≡ sub1
-  pub is-sub2 : t2 ≡ sub2

@@ -2,35 +2,18 @@
 // registers from the top down. Where the scan cuts a key, an IV or a keystream short, a line in brackets says so.
 #![tactic(auto)]
 
-ghost use Rattle.zuc_tables.specs.Tables.{Lent};
-
 use std::io::Stdout;
-use vectors_text::{end, heading, inputs, line, named, register, remark, time, unhex, word};
+use vectors_text::{end, heading, inputs, line, named, register, remark, time, unhex, units};
 use zuc::Zuc;
 
-fn put_units(stdout: Stdout, from: Zuc, t1: &[u8; 256], t2: &[u8; 256], units: usize)
-    requires { Lent t1.now t2.now }
-{
-    let mut s = from;
-    let mut i: usize = 0;
-    while i < units {
-        word(stdout, s.output());
-        s = s.step(t1, t2);
-        i += 1;
-    }
-    end(stdout);
-}
-
-fn stream(stdout: Stdout, k: &[u8], v: &[u8], units: usize) {
+fn stream(stdout: Stdout, k: &[u8], v: &[u8], count: usize) {
     inputs(stdout, k, v);
     let mut key = [0u8; 16];
     let mut iv = [0u8; 16];
     unhex(k, &mut key);
     unhex(v, &mut iv);
-    let t1 = zuc_tables::sub1();
-    let t2 = zuc_tables::sub2();
-    let s = Zuc::init(&key, &iv, &t1, &t2);
-    put_units(stdout, s, &t1, &t2, units);
+    let s = Zuc::init(&key, &iv);
+    units(stdout, s, count);
 }
 
 fn state(stdout: Stdout, s: Zuc) {
@@ -42,13 +25,8 @@ fn state(stdout: Stdout, s: Zuc) {
 }
 
 // The state after the state at i steps from loading.
-fn next(s: Zuc, i: usize, t1: &[u8; 256], t2: &[u8; 256]) -> Zuc
-    requires { Lent t1.now t2.now }
-{
-    if i < 32 {
-        return s.step_init(t1, t2);
-    }
-    s.step(t1, t2)
+fn next(s: Zuc, i: usize) -> Zuc {
+    if i < 32 { s.step_init() } else { s.step() }
 }
 
 fn states(stdout: Stdout) {
@@ -56,15 +34,11 @@ fn states(stdout: Stdout) {
     let mut iv = [0u8; 16];
     unhex(b"3d4c4be96a82fdaeb58f641db17b455b", &mut key);
     unhex(b"84319aa8de6915ca1f6bda6bfbd8c766", &mut iv);
-    let t1 = zuc_tables::sub1();
-    let t2 = zuc_tables::sub2();
     let mut s = zuc::start::load(&key, &iv);
-    let mut i: usize = 0;
-    while i < 42 {
+    for i in 0..42 {
         time(stdout, i, 33);
         state(stdout, s);
-        s = next(s, i, &t1, &t2);
-        i += 1;
+        s = next(s, i);
     }
 }
 

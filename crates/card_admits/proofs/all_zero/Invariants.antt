@@ -1,11 +1,7 @@
--- `card_admits::all_zero` meets its contract: the bytes before i are put together, and the whole is zero where each of them is.
+-- `card_admits::all_zero` meets its contract: the words so far are put together, and the whole is zero where each of them is.
 -- Assumes nothing.
-use Rattle.std.proofs.Common.{◌-◌, length, refl, rules}
-use Rattle.card_admits.proofs.Walks.{Gathered, gathered-more, gathered-all}
+use Rattle.card_admits.proofs.Walks.{Gathered}
 use Rattle.card_admits.proofs.all_zero.Given as goal
 
-abbrev pub invariant-loop-i : goal.invariant-loop-i
-invariant-loop-i l = Gathered l.s l.all l.i
-
-abbrev pub decreases-loop-i : goal.decreases-loop-i
-decreases-loop-i l = length l.s - l.i
+abbrev pub invariant-loop-x : goal.invariant-loop-x
+invariant-loop-x l = Gathered l.s l.all l.x-index

@@ -20,7 +20,4 @@ use borrow.Author.Rules.{rules}
 use Rattle.card_checks.proofs.card_ok.Given as goal
 
 abbrev pub invariant-loop-i : goal.invariant-loop-i
-invariant-loop-i l = (l.i ≤ line_count) × ((all_ok l.i (card_in l.card).lines ≡ true) × Held l.i l.card)
-
-abbrev pub decreases-loop-i : goal.decreases-loop-i
-decreases-loop-i l = line_count - l.i
+invariant-loop-i l = record { passed : all_ok l.i (card_in l.card).lines ≡ true; held : Held l.i l.card }

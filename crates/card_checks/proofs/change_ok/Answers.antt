@@ -8,7 +8,6 @@ use Rattle.machine.specs.Machine.{state_ok}
 use Rattle.card_line.specs.Words.{line_in}
 use Rattle.card_line.proofs.Lines.{waiting-slice}
 use Rattle.card_checks.proofs.Changes.{above, none-waits, none-low, low-waits}
-use borrow.Author.Rules.{rules}
 use Rattle.card_checks.proofs.change_ok.Goals as goal
 
 pub returns-then-none : goal.returns-then-none

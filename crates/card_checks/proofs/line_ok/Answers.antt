@@ -3,12 +3,10 @@
 -- Assumes nothing.
 use mathlib.Core.Path.{sym, ◌∙◌}
 use Prim.Native.Nat.{◌^◌, ◌<◌}
-use native.Mathlib.Omega.{arith}
 use lib.ListN.{get_or}
 use Rattle.card_line.proofs.Lines.{no_line}
 use Rattle.card_checks.proofs.Glances.{seen-line, idle-line}
 use Rattle.card_checks.proofs.Walks.{no-more}
-use borrow.Author.Rules.{rules}
 use Rattle.card_checks.proofs.line_ok.Goals as goal
 
 pub returns-then-seen : goal.returns-then-seen

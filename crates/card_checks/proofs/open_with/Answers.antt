@@ -14,7 +14,6 @@ use Rattle.ciphers.specs.Table.{is_cipher, cipher_at}
 use Rattle.words.proofs.Tests.{both_false}
 use Rattle.ciphers.proofs.Numbers.{read_none, read_is}
 use Rattle.machine.specs.Machine.{limit, state_ok}
-use borrow.Author.Rules.{rules}
 use Rattle.card_checks.proofs.open_with.Goals as goal
 
 pub returns-then-n-gt-LIMIT : goal.returns-then-n-gt-LIMIT
@@ -25,7 +24,7 @@ returns-then-n-gt-LIMIT c =
 
 pub returns-in_default : goal.returns-in_default
 unfolding state_ok
-returns-in_default c = rw (read_none _ (sym c.read_cipher.ensures ∙ c.in_default.is))
+returns-in_default c = rw (read_none _ (sym c.try_from.ensures ∙ c.in_default.is))
 
 pub slice_bounds-admits-end : goal.slice_bounds-admits-end
 unfolding state_ok
@@ -38,5 +37,5 @@ admits-requires c = length-take-le state_words c.args.w.now (omega (arith, c.req
 pub returns : goal.returns
 unfolding state_ok
 returns c =
-    let i = read_is _ (sym c.read_cipher.ensures ∙ c.in-Is.is) in
+    let i = read_is _ (sym c.try_from.ensures ∙ c.in-Ok.is) in
     rw (i.1, le-leb _ _ c.if-n-gt-LIMIT.false) (c.admits.ensures ∙ ap₂ (λ (k : ℕ) (l : List ℕ). (cipher_at k).admits l) (sym i.0) (take_all state_words c.args.w.now (omega (arith, c.requires))))

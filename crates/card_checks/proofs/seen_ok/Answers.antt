@@ -11,7 +11,6 @@ use Rattle.words.specs.Tests.{both}
 use Rattle.card_sizes.specs.Sizes.{limit}
 use Rattle.card_line.specs.Words.{line_in}
 use Rattle.card_checks.specs.Glances.{glanced}
-use borrow.Author.Rules.{rules}
 use Rattle.card_checks.proofs.seen_ok.Goals as goal
 
 pub returns-then-n-gt-LIMIT : goal.returns-then-n-gt-LIMIT

@@ -1,17 +1,14 @@
 -- `card_crypt::encipher_text` meets its contract: past the change where it comes due, else along the line's stream.
 -- Assumes nothing.
-use mathlib.Core.Path.{◌≡◌, ap, ap₂, sym, ◌∙◌}
-use mathlib.Core.Bool.{Bool, true, false}
-use Prim.Native.Nat.{ℕ, ◌-◌, ◌<◌, ◌≤◌}
+use mathlib.Core.Path.{◌≡◌, ap₂, sym, ◌∙◌}
+use mathlib.Core.Bool.{true, false}
+use Prim.Native.Nat.{ℕ, ◌-◌}
 use native.Mathlib.Omega.{arith}
 use lib.ListN.{length}
 use Rattle.card_moves.specs.Moves.{comes_due}
 use Rattle.card_moves.proofs.Due.{due-told}
-use Rattle.machine.specs.Machine.{Line}
 use Rattle.card_line.specs.Words.{line_in}
-use Rattle.card_crypt.specs.Crypted.{PastAsks}
 use Rattle.card_crypt.proofs.Past.{short-asks, short-gives}
-use borrow.Author.Rules.{rules}
 use Rattle.card_crypt.proofs.encipher_text.Goals as goal
 
 pub overflow_sub-old : goal.overflow_sub-old

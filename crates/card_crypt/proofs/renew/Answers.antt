@@ -6,7 +6,6 @@ use Prim.Native.Nat.{ℕ}
 use Rattle.machine.specs.Machine.{plain_line}
 use Rattle.card_line.specs.Words.{line_words}
 use Rattle.card_line.proofs.Lines.{waiting-slice}
-use borrow.Author.Rules.{rules}
 use Rattle.card_crypt.proofs.renew.Goals as goal
 
 pub returns : goal.returns

@@ -2,7 +2,6 @@
 -- Assumes nothing.
 use mathlib.Core.Path.{sym}
 use Rattle.machine.proofs.Fields.{image-from}
-use borrow.Author.Rules.{rules}
 use Rattle.card_fields.proofs.from_in.Goals as goal
 
 pub returns : goal.returns

@@ -2,7 +2,6 @@
 -- Assumes nothing.
 use mathlib.Core.Path.{sym, ◌∙◌}
 use Rattle.machine.proofs.Fields.{image-number}
-use borrow.Author.Rules.{rules}
 use Rattle.card_fields.proofs.number_in.Goals as goal
 
 pub returns : goal.returns

@@ -1,11 +1,9 @@
 -- `card_fields::words_in` meets its contract: the first i words are those of the image.
 -- Assumes nothing.
-use Prim.Native.Nat.{◌+◌, ◌-◌, ◌*◌, ◌≤◌}
-use mathlib.Core.Path.{◌≡◌, refl, sym}
-use mathlib.Core.List.{◌++◌}
+use Prim.Native.Nat.{◌+◌, ◌-◌, ◌*◌}
+use mathlib.Core.Path.{◌≡◌, sym}
 use native.Mathlib.Omega.{arith}
-use lib.ListN.{drop, replicate}
-use Rattle.words.specs.Lists.{tab}
+use lib.ListN.{replicate}
 use Rattle.words.specs.Strings.{word_at}
 use Rattle.words.proofs.Registers.{fill}
 use Rattle.machine.proofs.Fields.{image-state}
@@ -13,13 +11,8 @@ use borrow.Author.Rules.{rules}
 use Rattle.card_fields.proofs.words_in.Goals as goal
 
 pub loop-i-preserved : goal.loop-i-preserved
-loop-i-preserved c = (
-  search rules,
-  rw (c.word_at.ensures, c.loop-i.invariant.1) (fill c.loop-i.i (λ k. word_at c.args.s.now (14 + 4 * k)) (replicate 38 0) (search rules)),
-)
-
-pub loop-i-init : goal.loop-i-init
-loop-i-init c = (search rules, refl)
+loop-i-preserved c =
+    rw (c.word_at.ensures, c.loop-i.invariant) (fill c.loop-i.i (λ k. word_at c.args.s.now (14 + 4 * k)) (replicate 38 0) (search rules))
 
 pub returns : goal.returns
-returns c = let e : c.loop-i.i ≡ 38 = omega arith in rw (c.loop-i.invariant.1, e) (sym (image-state _))
+returns c = let e : c.loop-i.i ≡ 38 = omega arith in rw (c.loop-i.invariant, e) (sym (image-state _))

@@ -1,7 +1,6 @@
 -- `card_layout::clear_line` meets its contract: the part that is lent is the line's, and is all zeros.
 -- Assumes nothing.
 use Rattle.card_layout.proofs.Cards.{part-put}
-use borrow.Author.Rules.{rules}
 use Rattle.card_layout.proofs.clear_line.Goals as goal
 
 pub returns : goal.returns

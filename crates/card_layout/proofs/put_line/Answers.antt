@@ -1,7 +1,6 @@
 -- `card_layout::put_line` meets its contract: the part that is lent is the line's, and has its words.
 -- Assumes nothing.
 use Rattle.card_layout.proofs.Cards.{part-put}
-use borrow.Author.Rules.{rules}
 use Rattle.card_layout.proofs.put_line.Goals as goal
 
 pub returns : goal.returns

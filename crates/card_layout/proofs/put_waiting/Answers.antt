@@ -4,7 +4,6 @@ use mathlib.Core.Path.{ap, ◌∙◌}
 use Rattle.machine.specs.Machine.{Line}
 use Rattle.card_line.specs.Words.{line_words, with_change}
 use Rattle.card_layout.proofs.Cards.{line-part, part_held, part-put}
-use borrow.Author.Rules.{rules}
 use Rattle.card_layout.proofs.put_waiting.Goals as goal
 
 pub put_change-requires : goal.put_change-requires

@@ -1,18 +1,12 @@
--- `card_line::put_head` meets its contract: four words are stored, and what is behind them stays.
+-- `card_line::put_head` meets its contract: two words and a number's two are stored, and what is behind them stays.
 -- Assumes nothing.
-use lib.ListN.{length-set}
-use Rattle.card_line.proofs.Lines.{four-stored}
-use borrow.Author.Rules.{rules}
+use Rattle.std.proofs.Common.{ap, ◌∙◌, List, [], ℕ, ◌∷◌, ◌++◌, ◌/◌, ◌%◌, ◌^◌, drop}
+use Rattle.card_sizes.specs.Sizes.{head_words}
+use Rattle.card_line.proofs.Lines.{head-stored}
 use Rattle.card_line.proofs.put_head.Goals as goal
 
-pub bounds-line-1 : goal.bounds-line-1
-bounds-line-1 c = simp length-set (search rules)
-
-pub bounds-line-2 : goal.bounds-line-2
-bounds-line-2 c = simp length-set (search rules)
-
-pub bounds-line-3 : goal.bounds-line-3
-bounds-line-3 c = simp length-set (search rules)
-
 pub returns : goal.returns
-returns c = four-stored _ _ _ _ c.args.line.now c.requires
+returns c =
+    head-stored c.args.mode c.from.result _ c.args.line.now c.requires
+    ∙ ap (λ (ys : List ℕ). (c.args.mode ∷ c.from.result ∷ ys) ++ drop head_words c.args.line.now) c.put_number.ensures
+    ∙ ap (λ (x : ℕ). c.args.mode ∷ x ∷ (c.args.n / 2 ^ 32 ∷ c.args.n % 2 ^ 32 ∷ []) ++ drop head_words c.args.line.now) c.from.ensures

@@ -7,7 +7,6 @@ use native.Mathlib.Omega.{arith}
 use Rattle.command.specs.Decode.{number_of}
 use Rattle.ciphers.proofs.Rows.{key_fits}
 use Rattle.card_load.proofs.Sorts.{rabbit-key, rabbit-kept, key-whole, key-kept}
-use borrow.Author.Rules.{rules}
 use Rattle.card_load.proofs.keep.Goals as goal
 
 pub keep-requires : goal.keep-requires

@@ -6,7 +6,6 @@ use native.Mathlib.Omega.{arith}
 use lib.ListN.{length, take}
 use lib.Seq.{length-take-le}
 use Rattle.card_load.proofs.Sorts.{rabbit-admits, rabbit-started, key-started}
-use borrow.Author.Rules.{rules}
 use Rattle.card_load.proofs.start.Goals as goal
 
 pub slice_bounds-start-end : goal.slice_bounds-start-end

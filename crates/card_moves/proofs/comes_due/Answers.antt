@@ -1,16 +1,11 @@
--- `card_moves::comes_due` meets its contract: each test rules out one half, and what is left is both.
+-- `card_moves::comes_due` meets its contract: the test by differences is the test by sums.
 -- Assumes nothing.
-use mathlib.Core.Path.{sym}
 use native.Mathlib.Omega.{arith}
-use borrow.Author.Rules.{rules}
-use Rattle.card_moves.proofs.Due.{due-yes, due-no}
+use Rattle.card_moves.proofs.Due.{by-difference, not-above}
 use Rattle.card_moves.proofs.comes_due.Goals as goal
 
-pub returns-then-due-n : goal.returns-then-due-n
-returns-then-due-n c = sym (due-no c.args.n c.args.due c.args.count (λ h. omega (arith, h, c.if-due-n.true)))
+pub returns-then-n-due : goal.returns-then-n-due
+returns-then-n-due c = by-difference c.args.n c.args.due c.args.count (omega (arith, c.if-n-due.true))
 
-pub returns-then-due-n-2 : goal.returns-then-due-n-2
-returns-then-due-n-2 c = sym (due-no c.args.n c.args.due c.args.count (λ h. omega (arith, h, c.if-due-n-2.true)))
-
-pub returns : goal.returns
-returns c = sym (due-yes c.args.n c.args.due c.args.count (omega (arith, c.if-due-n.false)) (omega (arith, c.if-due-n.false, c.if-due-n-2.false)))
+pub returns-else-n-due : goal.returns-else-n-due
+returns-else-n-due c = not-above c.args.n c.args.due c.args.count (λ h. omega (arith, h, c.if-n-due.false))

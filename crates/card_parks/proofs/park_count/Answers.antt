@@ -1,7 +1,6 @@
 -- `card_parks::park_count` meets its contract: the counts stand behind the lines.
 -- Assumes nothing.
 use Rattle.card_parks.proofs.Parks.{count-is}
-use borrow.Author.Rules.{rules}
 use Rattle.card_parks.proofs.park_count.Goals as goal
 
 pub returns : goal.returns

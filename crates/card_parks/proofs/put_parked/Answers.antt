@@ -1,12 +1,7 @@
 -- `card_parks::put_parked` meets its contract: two words are stored.
 -- Assumes nothing.
-use lib.ListN.{length-set}
 use Rattle.card_parks.proofs.Parks.{parked-put}
-use borrow.Author.Rules.{rules}
 use Rattle.card_parks.proofs.put_parked.Goals as goal
-
-pub bounds-card-held : goal.bounds-card-held
-bounds-card-held c = simp length-set (search rules)
 
 pub returns : goal.returns
 returns c = parked-put c.args.card.now c.args.i c.args.n c.requires.card_len.1 c.requires.n_value

@@ -2,20 +2,19 @@
 -- Assumes nothing.
 use Prim.Native.Nat.{ℕ}
 use mathlib.Core.List.{List}
+use Rattle.std.specs.Prelude.{Ok}
 use mathlib.Core.Path.{◌≡◌, ap, sym, subst, ◌∙◌}
 use Rattle.command.specs.declared.Command.{Command}
-use Rattle.command.specs.declared.Decoded.TheVariants.{Run}
 use Rattle.command.specs.Decode.{decode_of, length_of}
 use Rattle.command.proofs.Reading.{Has, read-in, run-has}
 use Rattle.machine.specs.Machine.{Call}
 use Rattle.card_outcome.specs.declared.Outcome.{Outcome}
 use Rattle.card_outcome.specs.Leaves.{call_of, CommandLeaves}
-use borrow.Author.Rules.{rules}
 use Rattle.card_perform.proofs.perform.Goals as goal
 
 -- what is so of a command that was read
-has : (m : List ℕ) {k k' : Command} → decode_of m ≡ Run k → k ≡ k' → Has m k'
-has m d e = run-has m (decode_of m) _ (d ∙ ap Run e) (read-in m)
+has : (m : List ℕ) {k k' : Command} → decode_of m ≡ Ok k → k ≡ k' → Has m k'
+has m d e = run-has m (decode_of m) _ (d ∙ ap Ok e) (read-in m)
 
 -- what is so of a command is so of the one that it was found to be
 found : (ws : List ℕ) {k k' : Command} (a : Call) {r : Outcome} {ws' o : List ℕ} → k ≡ k' → CommandLeaves ws k' a r ws' o → CommandLeaves ws k a r ws' o

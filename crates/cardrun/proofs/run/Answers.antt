@@ -13,5 +13,5 @@ slice_bounds-records-end c = records-within c.run-ended.ensures.left
 pub slice_bounds-table-end : goal.slice_bounds-table-end
 slice_bounds-table-end c = table-within c.run-ended.ensures.left
 
-pub slice_bounds-write_all-end : goal.slice_bounds-write_all-end
-slice_bounds-write_all-end c = table-front c.run-ended.ensures.left
+pub slice_bounds-print-end-2 : goal.slice_bounds-print-end-2
+slice_bounds-print-end-2 c = table-front c.run-ended.ensures.left

@@ -1,58 +1,52 @@
 -- `command_read::decode` meets its contract: its tests are the rows, in their order.
 -- Assumes nothing.
+use Rattle.std.proofs.Common.{rules}
 use mathlib.Core.Path.{sym, ◌∙◌}
-use native.Mathlib.Omega.{arith}
-use borrow.Author.Tests.{eq-eqb, ne_eqb, lt-ltb, le-ltb}
+use borrow.Author.Tests.{eq-eqb, lt-ltb, le-ltb}
 use Rattle.command.specs.Decode.{decode_of}
-use Rattle.command.proofs.Reading.{two_bytes}
-use borrow.Author.Rules.{rules}
+use Rattle.command_read.proofs.Whole.{two_bytes, known}
 use Rattle.command_read.proofs.decode.Goals as goal
 
-pub returns-then-command-eq0 : goal.returns-then-command-eq0
+pub returns-then-is_empty : goal.returns-then-is_empty
 unfolding decode_of
-returns-then-command-eq0 c = simp (eq-eqb _ _ c.if-command-eq0.true)
+returns-then-is_empty c = simp (sym c.is_empty.ensures ∙ c.if-is_empty.true)
 
-pub returns-then-need-eq0 : goal.returns-then-need-eq0
+pub returns-in_err-kind : goal.returns-in_err-kind
 unfolding decode_of
-returns-then-need-eq0 c =
-    simp (ne_eqb _ _ c.if-command-eq0.false, eq-eqb _ _ (sym c.length_of-need.ensures ∙ c.if-need-eq0.true))
+returns-in_err-kind c = simp (sym c.is_empty.ensures ∙ c.if-is_empty.false, eq-eqb _ _ c.in_err-kind.ensures.1, sym c.in_err-kind.ensures.0) (search rules)
 
-pub returns-then-command-need : goal.returns-then-command-need
+pub returns-then-command-length : goal.returns-then-command-length
 unfolding decode_of
-returns-then-command-need c =
+returns-then-command-length c =
     simp (
-      ne_eqb _ _ c.if-command-eq0.false,
-      ne_eqb _ _ (λ e. c.if-need-eq0.false (c.length_of-need.ensures ∙ e)),
-      lt-ltb _ _ (rw c.length_of-need.ensures at c.if-command-need.true),
+      sym c.is_empty.ensures ∙ c.if-is_empty.false,
+      sym c.in_ok-kind.ensures,
+      known c.in_ok-kind.kind,
+      lt-ltb _ _ (rw c.length.ensures at c.if-command-length.true),
     )
 
 pub bounds-command-1 : goal.bounds-command-1
-bounds-command-1 c =
-    let t = two_bytes _ (λ e. c.if-need-eq0.false (c.length_of-need.ensures ∙ e)) in
-    omega (arith, c.if-command-need.false)
+bounds-command-1 c = let h = two_bytes c.in_ok-kind.kind (rw c.length.ensures at c.if-command-length.false) in search rules
 
-pub returns-then-line-gt7 : goal.returns-then-line-gt7
+pub returns-then-command-gt7 : goal.returns-then-command-gt7
 unfolding decode_of
-returns-then-line-gt7 c =
+returns-then-command-gt7 c =
     simp (
-      ne_eqb _ _ c.if-command-eq0.false,
-      ne_eqb _ _ (λ e. c.if-need-eq0.false (c.length_of-need.ensures ∙ e)),
-      le-ltb _ _ (rw c.length_of-need.ensures at c.if-command-need.false),
-      lt-ltb _ _ c.if-line-gt7.true,
+      sym c.is_empty.ensures ∙ c.if-is_empty.false,
+      sym c.in_ok-kind.ensures,
+      known c.in_ok-kind.kind,
+      le-ltb _ _ (rw c.length.ensures at c.if-command-length.false),
+      lt-ltb _ _ c.if-command-gt7.true,
     )
-
-pub read_command-requires : goal.read_command-requires
-read_command-requires c =
-    let t = two_bytes _ (λ e. c.if-need-eq0.false (c.length_of-need.ensures ∙ e)) in
-    (omega (arith, c.if-command-need.false), omega (arith, c.if-command-need.false))
 
 pub returns : goal.returns
 unfolding decode_of
 returns c =
     simp (
-      ne_eqb _ _ c.if-command-eq0.false,
-      ne_eqb _ _ (λ e. c.if-need-eq0.false (c.length_of-need.ensures ∙ e)),
-      le-ltb _ _ (rw c.length_of-need.ensures at c.if-command-need.false),
-      le-ltb _ _ c.if-line-gt7.false,
+      sym c.is_empty.ensures ∙ c.if-is_empty.false,
+      sym c.in_ok-kind.ensures,
+      known c.in_ok-kind.kind,
+      le-ltb _ _ (rw c.length.ensures at c.if-command-length.false),
+      le-ltb _ _ c.if-command-gt7.false,
     )
     c.read_command.ensures

@@ -1,7 +1,6 @@
 -- `command_read::read_change` meets its contract: each operand is read from its own place.
 -- Assumes nothing.
 use Rattle.command.specs.Decode.{change_of}
-use borrow.Author.Rules.{rules}
 use Rattle.command_read.proofs.read_change.Goals as goal
 
 pub returns : goal.returns

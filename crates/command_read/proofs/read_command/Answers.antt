@@ -1,84 +1,53 @@
 -- `command_read::read_command` meets its contract: its arms are the forms, in their order; a command of its kind's length has the operands that are read.
 -- Assumes nothing.
-use mathlib.Core.Path.{◌≡◌, subst}
-use Prim.Native.Nat.{ℕ, ◌≤◌}
+use Rattle.std.proofs.Common.{rules}
+use mathlib.Core.Path.{sym, ◌∙◌}
 use native.Mathlib.Omega.{arith}
-use borrow.Author.Tests.{ne_eqb}
+use Rattle.command.specs.declared.Kind.TheVariants.{Crypt, Change}
 use Rattle.command.specs.Decode.{length_of, command_of}
-use borrow.Author.Rules.{rules}
+use Rattle.command_read.proofs.Whole.{whole, two_bytes, open_bytes, opens}
 use Rattle.command_read.proofs.read_command.Goals as goal
 
--- a command of a known kind has the kind's bytes
-enough : (k n size : ℕ) → k ≡ n → length_of k ≤ size → length_of n ≤ size
-enough k n size e h = subst (λ (x : ℕ). length_of x ≤ size) e h
-
-pub returns-in_default : goal.returns-in_default
-unfolding command_of
-returns-in_default c =
-    simp (
-      ne_eqb _ _ c.in_default.in_default-own.rest.0.0.0.0.0.0.0.0.1,
-      ne_eqb _ _ c.in_default.in_default-own.rest.0.0.0.0.0.0.0.1,
-      ne_eqb _ _ c.in_default.in_default-own.rest.0.0.0.0.0.0.1,
-      ne_eqb _ _ c.in_default.in_default-own.rest.0.0.0.0.0.1,
-      ne_eqb _ _ c.in_default.in_default-own.rest.0.0.0.0.1,
-      ne_eqb _ _ c.in_default.in_default-own.rest.0.0.0.1,
-      ne_eqb _ _ c.in_default.in_default-own.rest.0.0.1,
-      ne_eqb _ _ c.in_default.in_default-own.rest.0.1,
-      ne_eqb _ _ c.in_default.in_default-own.rest.1,
-    )
+pub bounds-s-1 : goal.bounds-s-1
+bounds-s-1 c = let h = two_bytes c.args.kind c.requires in omega (arith, h)
 
 pub read_open-requires : goal.read_open-requires
-unfolding command_of length_of
-read_open-requires c = omega (arith, enough _ 1 _ c.in-1.is c.requires.1)
+read_open-requires c = open_bytes c.args.kind c.in-Tray.is c.requires
 
-pub read_open-requires-in-2 : goal.read_open-requires-in-2
-unfolding command_of length_of
-read_open-requires-in-2 c = omega (arith, enough _ 2 _ c.in-2.is c.requires.1)
+pub returns-in_err-read_open-in-Tray : goal.returns-in_err-read_open-in-Tray
+returns-in_err-read_open-in-Tray c = rw (opens c.args.kind c.args.s.now c.in-Tray.is, sym c.read_open.ensures ∙ c.in_err-read_open-in-Tray.was) (search rules)
 
 pub read_crypt-requires : goal.read_crypt-requires
-unfolding command_of length_of
-read_crypt-requires c = omega (arith, enough _ 3 _ c.in-3.is c.requires.1)
+unfolding length_of
+read_crypt-requires c = whole Crypt c.in-Crypt.is c.requires
 
 pub read_change-requires : goal.read_change-requires
-unfolding command_of length_of
-read_change-requires c = omega (arith, enough _ 7 _ c.in-7.is c.requires.1)
+unfolding length_of
+read_change-requires c = whole Change c.in-Change.is c.requires
 
-pub read_open-requires-in-8 : goal.read_open-requires-in-8
-unfolding command_of length_of
-read_open-requires-in-8 c = omega (arith, enough _ 8 _ c.in-8.is c.requires.1)
+pub returns-in_ok-read_open-in-Tray : goal.returns-in_ok-read_open-in-Tray
+returns-in_ok-read_open-in-Tray c = sym (opens c.args.kind c.args.s.now c.in-Tray.is ∙ sym c.read_open.ensures ∙ c.in_ok-read_open-in-Tray.was)
 
-pub returns-in-1 : goal.returns-in-1
-unfolding command_of length_of
-returns-in-1 c = simp c.in-1.is (rw c.in-1.is at c.read_open.ensures)
+pub returns-in-Crypt : goal.returns-in-Crypt
+unfolding command_of
+returns-in-Crypt c = simp c.in-Crypt.is (sym c.read_crypt.ensures)
 
-pub returns-in-2 : goal.returns-in-2
-unfolding command_of length_of
-returns-in-2 c = simp c.in-2.is (rw c.in-2.is at c.read_open-in-2.ensures)
+pub returns-in-Park : goal.returns-in-Park
+unfolding command_of
+returns-in-Park c = simp c.in-Park.is
 
-pub returns-in-3 : goal.returns-in-3
-unfolding command_of length_of
-returns-in-3 c = simp c.in-3.is c.read_crypt.ensures
+pub returns-in-Resume : goal.returns-in-Resume
+unfolding command_of
+returns-in-Resume c = simp c.in-Resume.is
 
-pub returns-in-4 : goal.returns-in-4
-unfolding command_of length_of
-returns-in-4 c = simp c.in-4.is
+pub returns-in-Close : goal.returns-in-Close
+unfolding command_of
+returns-in-Close c = simp c.in-Close.is
 
-pub returns-in-5 : goal.returns-in-5
-unfolding command_of length_of
-returns-in-5 c = simp c.in-5.is
+pub returns-in-Change : goal.returns-in-Change
+unfolding command_of
+returns-in-Change c = simp c.in-Change.is (sym c.read_change.ensures)
 
-pub returns-in-6 : goal.returns-in-6
-unfolding command_of length_of
-returns-in-6 c = simp c.in-6.is
-
-pub returns-in-7 : goal.returns-in-7
-unfolding command_of length_of
-returns-in-7 c = simp c.in-7.is c.read_change.ensures
-
-pub returns-in-8 : goal.returns-in-8
-unfolding command_of length_of
-returns-in-8 c = simp c.in-8.is (rw c.in-8.is at c.read_open-in-8.ensures)
-
-pub returns-in-9 : goal.returns-in-9
-unfolding command_of length_of
-returns-in-9 c = simp c.in-9.is
+pub returns-in-Start : goal.returns-in-Start
+unfolding command_of
+returns-in-Start c = simp c.in-Start.is

@@ -1,9 +1,8 @@
 -- `command_read::read_crypt` meets its contract: two bytes make the count.
 -- Assumes nothing.
 use Rattle.command.specs.Decode.{crypt_of}
-use borrow.Author.Rules.{rules}
 use Rattle.command_read.proofs.read_crypt.Goals as goal
 
 pub returns : goal.returns
 unfolding crypt_of
-returns c = rw (c.wide-low.ensures.0, c.wide-high.ensures.0)
+returns c = rw c.from_be_bytes-count.ensures

@@ -5,7 +5,6 @@ use Prim.Native.Nat.{ℕ, suc, ◌+◌, ◌-◌, ◌*◌, ◌/◌, ◌%◌, ◌^
 use native.Mathlib.Omega.{arith}
 use Rattle.decim_buffer.specs.Buffers.{drawn_bits}
 use Rattle.decim_buffer.proofs.Draws.{drawn-none, drawn-is, drawn-more}
-use borrow.Author.Rules.{rules}
 use Rattle.decim_buffer.proofs.draw_bits.Goals as goal
 
 pub returns-then-i-eq0 : goal.returns-then-i-eq0

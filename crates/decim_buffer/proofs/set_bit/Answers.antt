@@ -2,12 +2,8 @@
 -- Assumes nothing.
 use Prim.Native.Nat.{◌^◌, ◌<◌}
 use native.Mathlib.Omega.{arith}
-use Rattle.decim_buffer.proofs.Blocks.{set-less, set_is, set-fits}
-use borrow.Author.Rules.{rules}
+use Rattle.decim_buffer.proofs.Blocks.{set_is, set-fits}
 use Rattle.decim_buffer.proofs.set_bit.Goals as goal
-
-pub overflow_sub-result : goal.overflow_sub-result
-overflow_sub-result c = let h : c.args.b < 2 ^ 32 = omega arith in set-less c.args.b c.args.i c.args.c h c.requires.0 c.requires.1
 
 pub overflow_add-result : goal.overflow_add-result
 overflow_add-result c = let h : c.args.b < 2 ^ 32 = omega arith in record { fits = set-fits c.args.b c.args.i c.args.c h c.requires.0 c.requires.1 }

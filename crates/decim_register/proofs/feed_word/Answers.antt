@@ -2,7 +2,6 @@
 -- Assumes nothing.
 use mathlib.Core.Path.{◌≡◌}
 use Prim.Native.Nat.{ℕ}
-use lib.Dec.{lit<}
 use lib.ListN.{length, get_or}
 use mir.Val.{Fits}
 use mir.Syntax.{w32}
@@ -16,21 +15,3 @@ returns c =
     let six : length c.args.a ≡ 6 = search rules in
     let fits : (i : ℕ) → Fits w32 (get_or c.args.a i 0) = λ i. search rules in
     rw (c.solve.ensures, c.known_high.ensures, c.known_low.ensures) (fed-is c.args.a six (all-by c.args.a (λ i h. (fits i).fits)))
-
-pub bounds-a-0 : goal.bounds-a-0
-bounds-a-0 c = lit< tt
-
-pub bounds-a-1 : goal.bounds-a-1
-bounds-a-1 c = lit< tt
-
-pub bounds-a-2 : goal.bounds-a-2
-bounds-a-2 c = lit< tt
-
-pub bounds-a-3 : goal.bounds-a-3
-bounds-a-3 c = lit< tt
-
-pub bounds-a-4 : goal.bounds-a-4
-bounds-a-4 c = lit< tt
-
-pub bounds-a-5 : goal.bounds-a-5
-bounds-a-5 c = lit< tt

@@ -2,7 +2,6 @@
 -- Assumes nothing.
 use mathlib.Core.Path.{◌≡◌}
 use Prim.Native.Nat.{ℕ}
-use lib.Dec.{lit<}
 use lib.ListN.{length, get_or}
 use mir.Val.{Fits}
 use mir.Syntax.{w32}
@@ -19,21 +18,3 @@ returns c =
     let cells = all-by c.args.a (λ i h. (fits i).fits) in
     rw (c.splice-6.ensures, c.splice-5.ensures, c.splice-4.ensures, c.splice-3.ensures, c.splice-2.ensures, c.splice.ensures, c.requires)
     (four_is c.args.a six cells (turns-in 4 c.args.a (record { six = six; cells = cells })))
-
-pub bounds-a-1 : goal.bounds-a-1
-bounds-a-1 c = lit< tt
-
-pub bounds-a-2 : goal.bounds-a-2
-bounds-a-2 c = lit< tt
-
-pub bounds-a-3 : goal.bounds-a-3
-bounds-a-3 c = lit< tt
-
-pub bounds-a-4 : goal.bounds-a-4
-bounds-a-4 c = lit< tt
-
-pub bounds-a-5 : goal.bounds-a-5
-bounds-a-5 c = lit< tt
-
-pub bounds-a-0 : goal.bounds-a-0
-bounds-a-0 c = lit< tt

@@ -1,7 +1,6 @@
 -- `decim_register::known_low` meets its contract: what its parts ensure, put together.
 -- Assumes nothing.
 use Rattle.decim_register.specs.Wide.{known_low}
-use borrow.Author.Rules.{rules}
 use Rattle.decim_register.proofs.known_low.Goals as goal
 
 pub returns : goal.returns

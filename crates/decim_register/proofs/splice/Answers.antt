@@ -3,7 +3,6 @@
 use Prim.Native.Nat.{◌^◌, ◌<◌}
 use native.Mathlib.Omega.{arith}
 use Rattle.decim_register.proofs.Feeding.{spliced-fits}
-use borrow.Author.Rules.{rules}
 use Rattle.decim_register.proofs.splice.Goals as goal
 
 pub overflow_add-result : goal.overflow_add-result

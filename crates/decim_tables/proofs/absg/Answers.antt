@@ -1,4 +1,4 @@
--- `decim_tables::absg` meets its contract: the constant's entries are computed by ABSG.
+-- `decim_tables::absg` meets its contract: the table's entries are computed by ABSG.
 -- Assumes nothing.
 use mathlib.Core.Path.{refl}
 use Rattle.decim_tables.specs.Absg.{absg_on, absg, tau_to, out_to, packed, entry_of}

@@ -1,7 +1,6 @@
 -- `field::times_alpha` meets its contract: w moved up, with what the table has for its highest byte, is α w.
 -- Assumes nothing.
 use Rattle.field.proofs.Elements.{alpha-by}
-use borrow.Author.Rules.{rules}
 use Rattle.field.proofs.times_alpha.Goals as goal
 
 pub returns : goal.returns

@@ -1,10 +1,7 @@
 -- `gf64_table::multiples` meets its contract. The loop's invariant: the entries below at are filled, and x is a times x^(at / 2).
 -- Assumes nothing.
 use mathlib.Core.Path.{refl}
-use Prim.Native.Nat.{◌-◌}
-use native.Mathlib.Omega.{arith}
-use Rattle.gf64_table.proofs.Tables.{Filled, filled_none, filled_more, filled-all}
-use borrow.Author.Rules.{rules}
+use Rattle.gf64_table.proofs.Tables.{filled_none, filled_more, filled-all}
 use Rattle.gf64_table.proofs.multiples.Goals as goal
 
 pub loop-at-init : goal.loop-at-init

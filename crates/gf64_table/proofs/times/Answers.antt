@@ -1,9 +1,6 @@
 -- `gf64_table::times` meets its contract. The loop's invariant: what is summed and what the digits that are left give is the product.
 -- Assumes nothing.
-use Prim.Native.Nat.{◌-◌}
-use native.Mathlib.Omega.{arith}
-use Rattle.gf64_table.proofs.Tables.{Taken, taken_none, taken_more, taken-all}
-use borrow.Author.Rules.{rules}
+use Rattle.gf64_table.proofs.Tables.{taken_none, taken_more, taken-all}
 use Rattle.gf64_table.proofs.times.Goals as goal
 
 pub loop-at-init : goal.loop-at-init

@@ -1,6 +1,6 @@
 -- `kcipher2::one_or_two` meets its contract: both products are by tables that hold their field's, and one is picked.
 -- Assumes nothing.
-use Rattle.std.proofs.Common.{ℕ, List, sym, subst, rules}
+use Rattle.std.proofs.Common.{ℕ, List, sym, subst}
 use Rattle.field.specs.Gf32.{Products}
 use Rattle.kcipher2_tables.specs.Tables.{field1, field2}
 use Rattle.kcipher2.specs.Cipher.{one_or_two}
@@ -12,6 +12,6 @@ unfolding one_or_two
 returns c =
     rw (
       c.pick.ensures,
-      c.times_alpha-2.ensures field2 (subst (λ (t : List ℕ). Products field2 field2.y4 t) (sym c.requires.m2_value) alpha2-rule),
-      c.times_alpha.ensures field1 (subst (λ (t : List ℕ). Products field1 field1.y4 t) (sym c.requires.m1_value) alpha1-rule),
+      c.times_alpha-2.ensures field2 (subst (λ (t : List ℕ). Products field2 field2.y4 t) (sym c.alpha2-m2.ensures) alpha2-rule),
+      c.times_alpha.ensures field1 (subst (λ (t : List ℕ). Products field1 field1.y4 t) (sym c.alpha1-m1.ensures) alpha1-rule),
     )

@@ -1,4 +1,4 @@
--- `kcipher2_tables::alpha0` meets its contract: the constant is the list.
+-- `kcipher2_tables::alpha0` meets its contract: the static is the list.
 -- Assumes nothing.
 use mathlib.Core.Path.{refl}
 use Rattle.kcipher2_tables.specs.Tables.{alpha0_list}

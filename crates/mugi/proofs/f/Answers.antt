@@ -2,7 +2,6 @@
 -- Assumes nothing.
 use mathlib.Core.Path.{◌∙◌}
 use Rattle.mugi.proofs.Blocks.{f-by}
-use borrow.Author.Rules.{rules}
 use Rattle.mugi.proofs.f.Goals as goal
 
 pub returns : goal.returns

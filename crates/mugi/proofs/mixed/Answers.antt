@@ -1,21 +1,24 @@
 -- `mugi::mixed` meets its contract: the four entries, turned, add up to M with its halves exchanged.
 -- Assumes nothing.
-use Rattle.words.proofs.Ranges.{byte_of}
-use Rattle.mugi.proofs.Blocks.{mixed-by}
-use borrow.Author.Rules.{rules}
+use Rattle.std.proofs.Common.{get_or, lit<}
+use Rattle.words.specs.Word.{b0, b2, b3}
+use Rattle.words.specs.Strings.{bytes_of}
+use Rattle.words.proofs.Rotations.{rotated}
+use Rattle.mugi_tables.specs.Tables.{mixing_list}
+use Rattle.mugi.proofs.Blocks.{entry-word, mixed-by}
 use Rattle.mugi.proofs.mixed.Goals as goal
 
-pub bounds-t-w : goal.bounds-t-w
-bounds-t-w c = byte_of _
-
-pub bounds-t-w-2 : goal.bounds-t-w-2
-bounds-t-w-2 c = byte_of _
-
-pub bounds-t-w-3 : goal.bounds-t-w-3
-bounds-t-w-3 c = byte_of _
-
-pub bounds-t-w-4 : goal.bounds-t-w-4
-bounds-t-w-4 c = byte_of _
-
 pub returns : goal.returns
-returns c = rw (c.rotl24.ensures, c.rotl8.ensures, c.rotl16.ensures, c.requires) (mixed-by c.args.w)
+unfolding bytes_of
+returns c =
+    rw (
+      c.rotate_left-3.ensures,
+      c.rotate_left-2.ensures,
+      c.rotate_left.ensures,
+      c.mixing-t.ensures,
+      c.bytes-b.ensures,
+      rotated 24 (get_or mixing_list (b0 c.args.w) 0) (lit< tt) (lit< tt) (entry-word (b0 c.args.w)),
+      rotated 8 (get_or mixing_list (b2 c.args.w) 0) (lit< tt) (lit< tt) (entry-word (b2 c.args.w)),
+      rotated 16 (get_or mixing_list (b3 c.args.w) 0) (lit< tt) (lit< tt) (entry-word (b3 c.args.w)),
+    )
+    (mixed-by c.args.w)

@@ -1,4 +1,4 @@
--- `mugi_tables::mixing` meets its contract: the constant is the list.
+-- `mugi_tables::mixing` meets its contract: the table is the list.
 -- Assumes nothing.
 use mathlib.Core.Path.{refl}
 use Rattle.mugi_tables.specs.Tables.{mixing_list}

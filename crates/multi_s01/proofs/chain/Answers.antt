@@ -1,11 +1,10 @@
 -- `multi_s01::chain` meets its contract. The loop's invariant: i blocks are chained, and prev is the W before the next.
 -- Assumes nothing.
-use mathlib.Core.Path.{◌≡◌, ap}
-use Prim.Native.Nat.{ℕ, ◌-◌}
+use mathlib.Core.Path.{ap}
+use Prim.Native.Nat.{ℕ}
 use native.Mathlib.Omega.{arith}
 use Rattle.words.specs.Word.{◌⊕◌}
-use Rattle.multi_s01.proofs.Chains.{Chaining, chaining-none, chaining-more, replaced-length, replaced-all}
-use borrow.Author.Rules.{rules}
+use Rattle.multi_s01.proofs.Chains.{chaining-none, chaining-more, replaced-length, replaced-all}
 use Rattle.multi_s01.proofs.chain.Goals as goal
 
 pub loop-i-init : goal.loop-i-init
@@ -19,6 +18,4 @@ pub shape_of-out : goal.shape_of-out
 shape_of-out c = replaced-length c.loop-i.invariant.done
 
 pub returns : goal.returns
-returns c =
-    let e : c.loop-i.i ≡ c.args.count = omega (arith, c.loop-i.invariant.most) in
-    replaced-all e c.loop-i.invariant.done
+returns c = replaced-all {n = c.args.count} (omega arith) c.loop-i.invariant.done

@@ -1,11 +1,11 @@
 -- `rabbit::count` meets its contract. The loop's invariant: the first i counters are those after the step, and the carry is the one into counter i.
 -- Assumes nothing.
-use Rattle.std.proofs.Common.{◌≡◌, ℕ, ◌+◌, ◌-◌, ◌/◌, ◌%◌, ◌^◌, ◌<◌, ◌≤◌, List, [], ◌++◌, length, get_or, drop, set, refl, ◌∙◌, add-one, arith, drop_of_length-le, rules}
+use Rattle.std.proofs.Common.{◌≡◌, ℕ, ◌+◌, ◌/◌, ◌%◌, ◌^◌, ◌<◌, List, ◌++◌, length, get_or, drop, set, refl, ◌∙◌, add-one, arith, rules}
 use Rattle.words.specs.Lists.{tab}
 use Rattle.words.proofs.Registers.{fill}
 use Rattle.rabbit_tables.specs.Tables.{a_list}
 use Rattle.rabbit.specs.Cipher.{counted, counter_at, carry_at}
-use Rattle.rabbit.specs.declared.Counted.{Counted}
+use Rattle.rabbit.proofs.Filling.{whole}
 use Rattle.rabbit.proofs.count.Goals as goal
 
 -- one counter more
@@ -18,41 +18,24 @@ module _ (c : List ℕ) (b i temp : ℕ) (t : temp ≡ get_or c i 0 + get_or a_l
   unfolding carry_at
   carry-more = rw (add-one, t)
 
--- all of them
-finished : (c next : List ℕ) (b carry i : ℕ) → i ≡ 8 → length c ≡ 8 → next ≡ tab i (counter_at c b) ++ drop i c → carry ≡ carry_at c b i
-    → ◌≡◌ {A = Counted} (record { c = next; b = carry }) (counted c b)
-unfolding counted
-finished c next b carry i e l n k = let none : drop 8 c ≡ [] = drop_of_length-le c {i = 8} (omega arith) in rw (n, k, e, none)
-
--- a turn more leaves fewer to do
-nearer : {i : ℕ} → i < 8 → 8 - (i + 1) < 8 - i
-nearer h = omega arith
-
 pub loop-i-init : goal.loop-i-init
 unfolding carry_at
-loop-i-init c = (search rules, refl, refl)
+loop-i-init c = (refl, refl)
 
 pub loop-i-preserved : goal.loop-i-preserved
 loop-i-preserved c =
     let t : c.sum-temp.result ≡ get_or c.args.c c.loop-i.i 0 + get_or a_list c.loop-i.i 0 + carry_at c.args.c c.args.b c.loop-i.i =
-    c.sum-temp.ensures.0 ∙ rw (c.a-a.ensures, c.loop-i.invariant.2) in (
-      omega arith,
-      counter-more c.args.c c.args.b c.loop-i.i c.sum-temp.result t (search rules) c.loop-i.invariant.1,
+    c.sum-temp.ensures.0 ∙ rw (c.a-a.ensures, c.loop-i.invariant.1) in (
+      counter-more c.args.c c.args.b c.loop-i.i c.sum-temp.result t (search rules) c.loop-i.invariant.0,
       carry-more c.args.c c.args.b c.loop-i.i c.sum-temp.result t,
     )
 
 pub returns : goal.returns
+unfolding counted
 returns c =
-    finished c.args.c c.loop-i.next c.args.b c.loop-i.carry c.loop-i.i (omega arith) (search rules) c.loop-i.invariant.1 c.loop-i.invariant.2
-
-pub bounds-c-i : goal.bounds-c-i
-bounds-c-i c = c.loop-i-test.true
-
-pub bounds-a-i : goal.bounds-a-i
-bounds-a-i c = c.loop-i-test.true
-
-pub bounds-next-i : goal.bounds-next-i
-bounds-next-i c = c.loop-i-test.true
-
-pub loop-i-smaller : goal.loop-i-smaller
-loop-i-smaller c = nearer c.loop-i-test.true
+    let e : c.loop-i.i ≡ 8 = omega arith in
+    rw (
+      whole 8 c.loop-i.i (counter_at c.args.c c.args.b) c.args.c c.loop-i.next e (search rules) c.loop-i.invariant.0,
+      c.loop-i.invariant.1,
+      e,
+    )

@@ -1,6 +1,6 @@
 -- `rabbit::gs` meets its contract: each G is that of its own X and C.
 -- Assumes nothing.
-use Rattle.std.proofs.Common.{refl, arith, rules}
+use Rattle.std.proofs.Common.{refl}
 use Rattle.words.proofs.Registers.{cons}
 use Rattle.rabbit.specs.Cipher.{gs}
 use Rattle.rabbit.proofs.gs.Goals as goal

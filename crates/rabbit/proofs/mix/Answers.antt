@@ -1,6 +1,6 @@
 -- `rabbit::mix` meets its contract: each X is the sum of 7.3.3, step 6.
 -- Assumes nothing.
-use Rattle.std.proofs.Common.{refl, arith, rules}
+use Rattle.std.proofs.Common.{refl}
 use Rattle.words.proofs.Registers.{cons}
 use Rattle.rabbit.specs.Cipher.{mixed}
 use Rattle.rabbit.proofs.mix.Goals as goal

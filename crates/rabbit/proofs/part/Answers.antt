@@ -1,6 +1,6 @@
 -- `rabbit::part` meets its contract: an exclusive or goes by halves.
 -- Assumes nothing.
-use Rattle.std.proofs.Common.{◌≡◌, ℕ, ◌^◌, ◌<◌, sym, ap, ◌∙◌, mod-lt, div-add-mod', arith, lit<, rules}
+use Rattle.std.proofs.Common.{◌≡◌, ℕ, ◌^◌, sym, ap, ◌∙◌, mod-lt, div-add-mod', arith, lit<}
 use lib.Bits.{xor_block}
 use Rattle.words.specs.Word.{◌⊕◌, ◌∥◌, high, low}
 use Rattle.words.specs.Lists.{Word}

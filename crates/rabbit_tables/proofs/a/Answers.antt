@@ -1,4 +1,4 @@
--- `rabbit_tables::a` meets its contract: the constant is the list.
+-- `rabbit_tables::a` meets its contract: the table is the list.
 -- Assumes nothing.
 use mathlib.Core.Path.{refl}
 use Rattle.rabbit_tables.specs.Tables.{a_list}

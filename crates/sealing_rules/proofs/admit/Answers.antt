@@ -1,31 +1,31 @@
 -- `sealing_rules::admit` meets its contract: each test is a row of the checks, in their order.
 -- Assumes nothing.
-use mathlib.Core.Path.{◌≡◌, ap, sym, ◌∙◌}
-use mathlib.Core.Bool.{Bool, true}
-use Prim.Native.Nat.{ℕ}
-use native.Mathlib.Omega.{arith}
+use mathlib.Core.Path.{ap, sym, ◌∙◌}
 use borrow.Author.Tests.{not-true, not-false}
-use Rattle.command.specs.Decode.{number_of}
-use Rattle.ciphers.proofs.Numbers.{read_is, read_none}
-use Rattle.sealing_rules.specs.Sealing.{check_of}
+use Rattle.command.specs.Decode.{refusal_number, refusal_of}
+use Rattle.ciphers.proofs.Numbers.{read_is, read_none, read_unknown}
 use Rattle.sealing_rules.specs.Answer.{runs, refuses}
-use Rattle.sealing_rules.proofs.Rows.{check-size, check-unknown}
-use borrow.Author.Rules.{rules}
+use Rattle.sealing_rules.proofs.Rows.{check-size, check-unknown, check-known}
+use Rattle.sealing_rules.proofs.Outcomes.{admits-passed}
 use Rattle.sealing_rules.proofs.admit.Goals as goal
 
 pub returns-then-not-ok : goal.returns-then-not-ok
 returns-then-not-ok c =
-    refuses (check-size c.args.ok c.args.cipher c.args.key.now c.args.iv.now c.args.need c.args.room (not-true _ c.if-not-ok.true-raw)) (omega arith)
+    refuses (check-size c.args.ok c.args.cipher c.args.key.now c.args.iv.now c.args.need c.args.room (not-true _ c.if-not-ok.true-raw))
 
-pub returns-in_default : goal.returns-in_default
-returns-in_default c =
-    refuses
-    (check-unknown c.args.ok c.args.cipher c.args.key.now c.args.iv.now c.args.need c.args.room ((let it : c.args.ok ≡ true = not-false _ c.if-not-ok.false-raw in it))
-    (read_none c.args.cipher (sym c.read_cipher.ensures ∙ c.in_default.is)))
-    (omega arith)
+pub returns-in_err-c : goal.returns-in_err-c
+returns-in_err-c c =
+    let none = sym c.in_err-c.ensures in
+    admits-passed _ c.from_residual.result c.from_residual.ensures.1
+    (check-unknown c.args.ok c.args.cipher c.args.key.now c.args.iv.now c.args.need c.args.room (not-false _ c.if-not-ok.false-raw) (read_none c.args.cipher none)
+    ∙ ap refusal_number (sym (read_unknown c.args.cipher none)))
 
-pub returns-then-code-ne0 : goal.returns-then-code-ne0
-returns-then-code-ne0 c = refuses ((let it : check_of c.args.ok c.args.cipher c.args.key.now c.args.iv.now c.args.need c.args.room ≡ c.key_and_room-code.result = ap (λ (b : Bool). check_of b c.args.cipher c.args.key.now c.args.iv.now c.args.need c.args.room) ((let it : c.args.ok ≡ true = not-false _ c.if-not-ok.false-raw in it)) ∙ ap (λ (n : ℕ). check_of true n c.args.key.now c.args.iv.now c.args.need c.args.room) ((let it : c.args.cipher ≡ number_of c.in-Is.c = (read_is c.args.cipher (sym c.read_cipher.ensures ∙ c.in-Is.is)).0 in it)) ∙ sym c.key_and_room-code.ensures in it)) c.if-code-ne0.true
+pub returns-in_err-key_and_room : goal.returns-in_err-key_and_room
+returns-in_err-key_and_room c =
+    admits-passed _ c.from_residual-in_err-key_and_room.result c.from_residual-in_err-key_and_room.ensures.1
+    (check-known c.args.key.now c.args.iv.now c.args.need c.args.room (not-false _ c.if-not-ok.false-raw) (read_is c.args.cipher (sym c.in_ok-c.ensures)).0 ∙ sym c.in_err-key_and_room.ensures)
 
 pub returns : goal.returns
-returns c = runs ((let it : check_of c.args.ok c.args.cipher c.args.key.now c.args.iv.now c.args.need c.args.room ≡ c.key_and_room-code.result = ap (λ (b : Bool). check_of b c.args.cipher c.args.key.now c.args.iv.now c.args.need c.args.room) ((let it : c.args.ok ≡ true = not-false _ c.if-not-ok.false-raw in it)) ∙ ap (λ (n : ℕ). check_of true n c.args.key.now c.args.iv.now c.args.need c.args.room) ((let it : c.args.cipher ≡ number_of c.in-Is.c = (read_is c.args.cipher (sym c.read_cipher.ensures ∙ c.in-Is.is)).0 in it)) ∙ sym c.key_and_room-code.ensures in it) ∙ c.if-code-ne0.false) ((let it : c.args.cipher ≡ number_of c.in-Is.c = (read_is c.args.cipher (sym c.read_cipher.ensures ∙ c.in-Is.is)).0 in it))
+returns c =
+    let is = (read_is c.args.cipher (sym c.in_ok-c.ensures)).0 in
+    runs (check-known c.args.key.now c.args.iv.now c.args.need c.args.room (not-false _ c.if-not-ok.false-raw) is ∙ sym c.key_and_room.ensures ∙ ap refusal_of c.in_ok-key_and_room.was) is

@@ -5,18 +5,17 @@ use Prim.Native.Nat.{◌+◌, ◌*◌, ◌/◌}
 use native.Mathlib.Omega.{arith}
 use lib.ListN.{length}
 use Rattle.words.proofs.Ranges.{all-by}
-use Rattle.command.specs.Decode.{number_of}
 use Rattle.sealing_steps.proofs.Wholes.{at_same, sums-put}
-use borrow.Author.Rules.{rules}
 use Rattle.sealing_steps.proofs.sums.Goals as goal
 
 pub returns : goal.returns
 returns c =
-    let n : 8 * (c.args.t + 1) + length c.args.message.now ≡ 8 * (c.args.t + 1 + length c.args.message.now / 8) = omega (arith, c.requires.t_bound.1.whole) in
-    λ s h.
-    let d = c.crypt_on.ensures.crypted s h in
-    let w = c.ends-e.ensures s (at_same n d.stands) in
+    λ k s t h.
+    let u = length c.args.message.now / 8 in
+    let n : 8 * (t + 1) + length c.args.message.now ≡ 8 * (t + 1 + u) = omega (arith, c.requires.whole) in
+    let d = c.crypt_on.ensures.crypted k s _ h in
+    let w = c.ends-e.ensures k s (t + 1 + u) (at_same n d.stands) in
     record {
-      bytes = sums-put (number_of c.args.c) c.args.t s c.args.redundancy.now c.args.message.now (all-by c.args.message.now (λ i _. (c.type_inv.message i).fits)) c.requires.t_bound.1.whole c.requires.t_bound.1.fits refl w.padding-is w.redundancy-is d
+      bytes = sums-put k t s c.args.redundancy.now c.args.message.now (all-by c.args.message.now (λ i _. (c.type_inv.message i).fits)) c.requires.whole c.requires.fits refl w.padding-is w.redundancy-is d
           c.put_block.ensures c.put_block-2.ensures;
     }

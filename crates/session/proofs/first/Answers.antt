@@ -5,7 +5,7 @@ use borrow.Author.Rules.{rules}
 use Rattle.session.proofs.first.Goals as goal
 
 pub slice_bounds-result-end : goal.slice_bounds-result-end
-slice_bounds-result-end c = first-length _ _ c.least-e.ensures
+slice_bounds-result-end c = first-length _ _ c.min-e.ensures
 
 pub returns : goal.returns
-returns c = first-is _ _ c.least-e.ensures
+returns c = first-is _ _ c.min-e.ensures

@@ -8,14 +8,14 @@ use borrow.Author.Rules.{rules}
 use Rattle.session_records.proofs.put_record.Goals as goal
 
 pub returns-then-code-ne0 : goal.returns-then-code-ne0
-returns-then-code-ne0 c = put_refused _ _ _ _ c.requires.at_in_bounds c.if-code-ne0.true
+returns-then-code-ne0 c = put_refused _ _ _ _ c.requires.room c.if-code-ne0.true
 
 pub bounds-command-0 : goal.bounds-command-0
 bounds-command-0 c = let h = (let it : 2 ≤ length c.args.command.now = c.requires.named.long c.if-code-ne0.false in it) in omega arith
 
 pub returns-then-command-ne3 : goal.returns-then-command-ne3
 returns-then-command-ne3 c =
-    put_other _ _ _ _ c.requires.at_in_bounds c.if-code-ne0.false c.if-command-ne3.true
+    put_other _ _ _ _ c.requires.room c.if-code-ne0.false c.if-command-ne3.true
 
 pub bounds-command-1 : goal.bounds-command-1
 bounds-command-1 c = let h = (let it : 2 ≤ length c.args.command.now = c.requires.named.long c.if-code-ne0.false in it) in omega arith

@@ -1,17 +1,16 @@
 -- `session_table::put_end` meets its contract: the word, and each figure behind it.
 -- Assumes nothing.
-use native.Mathlib.Omega.{arith}
-use Rattle.text.proofs.Pieces.{figure-room, behind-length, behind_more}
+use Rattle.std.proofs.Common.{arith}
+use Rattle.text.proofs.Pieces.{behind-length, written-more, written-room}
 use Rattle.session_table.specs.Table.{end_of}
-use borrow.Author.Rules.{rules}
 use Rattle.session_table.proofs.put_end.Goals as goal
 
-pub put_figure-requires : goal.put_figure-requires
-put_figure-requires c =
-    let l = behind-length c.put-a.ensures in
-    figure-room _ _ c.put_figure-b.ensures 21 (omega arith)
+pub put_figure-requires-2 : goal.put_figure-requires-2
+put_figure-requires-2 c =
+    let e = c.put.ensures.behind.end in
+    let l = behind-length c.put.ensures.behind in
+    written-room _ _ c.put_figure.ensures 21 (omega arith)
 
 pub returns : goal.returns
 unfolding end_of
-returns c =
-    behind_more (behind_more c.put-a.ensures c.put_figure-b.ensures) c.put_figure.ensures
+returns c = written-more (written-more c.put.ensures c.put_figure.ensures) c.put_figure-2.ensures

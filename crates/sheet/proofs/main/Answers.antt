@@ -8,5 +8,5 @@ use Rattle.sheet.proofs.main.Goals as goal
 pub slice_bounds-out-end : goal.slice_bounds-out-end
 slice_bounds-out-end c = (printed c.report-reported.ensures).0
 
-pub slice_bounds-write_all-end : goal.slice_bounds-write_all-end
-slice_bounds-write_all-end c = (printed c.report-reported.ensures).1
+pub slice_bounds-print-end-2 : goal.slice_bounds-print-end-2
+slice_bounds-print-end-2 c = (printed c.report-reported.ensures).1

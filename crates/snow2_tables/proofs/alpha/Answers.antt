@@ -1,4 +1,4 @@
--- `snow2_tables::alpha` meets its contract: the constant is the list.
+-- `snow2_tables::alpha` meets its contract: the static is the list.
 -- Assumes nothing.
 use mathlib.Core.Path.{refl}
 use Rattle.snow2_tables.specs.Tables.{alpha_list}

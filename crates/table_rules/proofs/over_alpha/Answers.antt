@@ -6,7 +6,6 @@ use Rattle.field.specs.Gf8.{mul8, inverse}
 use Rattle.field.specs.Gf32.{over_alpha}
 use Rattle.field.proofs.Additive.{mul-byte}
 use Rattle.table_rules.proofs.Steps.{over_by}
-use borrow.Author.Rules.{rules}
 use Rattle.table_rules.proofs.over_alpha.Goals as goal
 
 pub returns : goal.returns

@@ -1,10 +1,9 @@
 -- `table_rules::products` meets its contract: the first k entries are the products.
 -- Assumes nothing.
-use Prim.Native.Nat.{ℕ, ◌-◌}
 use Rattle.field.specs.Gf32.{scaled}
 use Rattle.table_rules.specs.Rules.{products_of}
-use Rattle.table_rules.proofs.Tables.{Entered, entered-none, entered-more, entered_all}
-use borrow.Author.Rules.{rules}
+use Rattle.table_rules.proofs.Tables.{entered-none, entered-more, entered_all}
+use Rattle.std.proofs.Common.{arith}
 use Rattle.table_rules.proofs.products.Goals as goal
 
 pub loop-k-init : goal.loop-k-init
@@ -16,4 +15,4 @@ loop-k-preserved c =
 
 pub returns : goal.returns
 unfolding products_of
-returns c = let q = entered_all (λ i. scaled c.args.p i c.args.v) c.loop-k-test.false c.loop-k.invariant in record { value = q.0; value_2 = q.1 }
+returns c = let q = entered_all (λ i. scaled c.args.p i c.args.v) (omega arith) c.loop-k.invariant in record { value = q.0; value_2 = q.1 }

@@ -1,12 +1,11 @@
 -- `table_rules::substitution` meets its contract: the first k entries are the affine map of the inverse.
 -- Assumes nothing.
 use mathlib.Core.Path.{◌∙◌}
-use Prim.Native.Nat.{ℕ, ◌-◌}
 use Rattle.field.specs.Gf8.{inverse}
 use Rattle.field.specs.Aes.{affine}
 use Rattle.table_rules.specs.Rules.{substitution_of}
-use Rattle.table_rules.proofs.Tables.{Entered, entered-none, entered-more, entered_all}
-use borrow.Author.Rules.{rules}
+use Rattle.table_rules.proofs.Tables.{entered-none, entered-more, entered_all}
+use Rattle.std.proofs.Common.{arith}
 use Rattle.table_rules.proofs.substitution.Goals as goal
 
 pub loop-k-init : goal.loop-k-init
@@ -18,4 +17,4 @@ loop-k-preserved c =
 
 pub returns : goal.returns
 unfolding substitution_of
-returns c = let q = entered_all (λ i. affine (inverse c.args.p i)) c.loop-k-test.false c.loop-k.invariant in record { value = q.0; value_2 = q.1 }
+returns c = let q = entered_all (λ i. affine (inverse c.args.p i)) (omega arith) c.loop-k.invariant in record { value = q.0; value_2 = q.1 }

@@ -1,17 +1,8 @@
--- `tables_text::put_entry` meets its contract: the digits go to the part that is lent, and the byte is stored behind them.
+-- `tables_text::put_entry` meets its contract: the digits, and the byte behind them.
 -- Assumes nothing.
-use mathlib.Core.Path.{refl}
-use native.Mathlib.Omega.{arith}
-use Rattle.text.proofs.Pieces.{behind-length, behind-store}
-use Rattle.tables_text.proofs.Entries.{digits-put}
-use borrow.Author.Rules.{rules}
+use Rattle.std.proofs.Common.{rules}
+use Rattle.tables_text.proofs.Entries.{entry-put}
 use Rattle.tables_text.proofs.put_entry.Goals as goal
 
 pub returns : goal.returns
-returns c =
-    behind-store c.args.end (digits-put c.args.width c.args.n c.args.at c.args.out.now _ c.requires c.fill.ensures) (omega arith)
-
-pub shape_of-out : goal.shape_of-out
-shape_of-out c =
-    behind-length
-    (behind-store c.args.end (digits-put c.args.width c.args.n c.args.at c.args.out.now _ c.requires c.fill.ensures) (omega arith))
+returns g c = entry-put _ _ _ _ (search rules) c.fill.ensures c.put.ensures c.put-2.ensures

@@ -1,29 +1,25 @@
--- `traffic::sum` meets its contract: what is summed and what the records that are left add is the sum, which is at most the total.
+-- `traffic::sum` meets its contract: it is at most the total.
 -- Assumes nothing.
-use native.Mathlib.Omega.{arith}
+use Rattle.std.proofs.Common.{◌∙◌, ap, arith}
 use Rattle.records.specs.Records.{uses}
-use Rattle.traffic.specs.Traffic.{sum_of, in_column}
-use Rattle.traffic.proofs.Sums.{left-room, Summing, summing-all, summing_on, summing-most, summing-none, sum-most}
-use borrow.Author.Rules.{rules}
+use Rattle.traffic.specs.Traffic.{sum_of, in_column, column_number}
+use Rattle.traffic.proofs.Sums.{summing-all, summing_on, summing-most, summing-none, sum-most}
 use Rattle.traffic.proofs.sum.Goals as goal
 
-pub counted_at-sum-requires : goal.counted_at-sum-requires
-counted_at-sum-requires c = (c.requires.0, left-room c.loop-left.invariant.still c.loop-left-test.true)
+pub loop-record-init : goal.loop-record-init
+loop-record-init c = summing-all _ c.all-record-items.result.now
+
+pub loop-record-preserved : goal.loop-record-preserved
+loop-record-preserved c = summing_on c.loop-record.invariant c.loop-record-test.true c.counted-sum.ensures
 
 pub overflow_add-sum : goal.overflow_add-sum
 overflow_add-sum c =
-    let h = summing-most c.loop-left.invariant c.loop-left-test.true c.counted_at-sum.ensures in
-    let m = sum-most (in_column c.args.c c.args.v) (uses c.args.s.now) in
+    let p = in_column (column_number c.args.column) c.args.v in
+    let us = uses c.args.s.now in
+    let h = summing-most c.loop-record.invariant c.loop-record-test.true c.counted-sum.ensures in
+    let e = ap (sum_of p) c.all-record-items.ensures in
+    let m = sum-most p us in
     record { fits = omega arith }
 
-pub overflow_add-at : goal.overflow_add-at
-overflow_add-at c = let h = left-room c.loop-left.invariant.still c.loop-left-test.true in search rules
-
-pub loop-left-preserved : goal.loop-left-preserved
-loop-left-preserved c = summing_on c.loop-left.invariant c.loop-left-test.true c.counted_at-sum.ensures
-
 pub returns : goal.returns
-returns c = summing-none c.loop-left.invariant c.loop-left-test.false
-
-pub loop-left-init : goal.loop-left-init
-loop-left-init c = summing-all _ c.args.s.now
+returns c = summing-none c.loop-record.invariant c.loop-record-test.false ∙ ap (sum_of (in_column (column_number c.args.column) c.args.v)) c.all-record-items.ensures

@@ -1,30 +1,23 @@
--- `traffic::total` meets its contract: what is summed and what the records that are left add is the total; where the next would pass 2^64, so does the total.
+-- `traffic::total` meets its contract: where the next would pass 2^64, so does the total.
 -- Assumes nothing.
-use Prim.Native.Nat.{◌^◌, ◌<◌}
-use native.Mathlib.Omega.{arith}
-use Rattle.records.specs.Records.{uses}
-use Rattle.traffic.specs.Traffic.{sum_of, every}
-use Rattle.traffic.proofs.Sums.{left-room, Summing, summing-all, summing_on, summing-most, summing-none, total-over, total-below}
-use borrow.Author.Rules.{rules}
+use Rattle.std.proofs.Common.{◌≡◌, ◌≤◌, ◌<◌, ◌+◌, ◌^◌, ◌∙◌, ap, arith, rules}
+use Rattle.traffic.specs.Traffic.{sum_of, every, total_of}
+use Rattle.traffic.proofs.Sums.{summing-all, summing_on, summing-most, summing-none, total-over, total-below}
 use Rattle.traffic.proofs.total.Goals as goal
 
-pub bytes_at-n-requires : goal.bytes_at-n-requires
-bytes_at-n-requires c = left-room c.loop-left.invariant.0.still c.loop-left-test.true
+pub loop-record-init : goal.loop-record-init
+loop-record-init c = (summing-all every c.all-record-items.result.now, search rules)
 
-pub returns-then-n-sum : goal.returns-then-n-sum
-returns-then-n-sum c =
-    let h = summing-most c.loop-left.invariant.0 c.loop-left-test.true c.bytes_at-n.ensures in
-    total-over (omega arith)
+pub loop-record-preserved : goal.loop-record-preserved
+loop-record-preserved c =
+    let e = c.in_ok-sum.ensures in
+    (rw e.1 (summing_on c.loop-record.invariant.0 c.loop-record-test.true c.bytes_of.ensures), rw e.1 e.0)
 
-pub overflow_add-at : goal.overflow_add-at
-overflow_add-at c = let h = left-room c.loop-left.invariant.0.still c.loop-left-test.true in search rules
-
-pub loop-left-preserved : goal.loop-left-preserved
-loop-left-preserved c =
-    (summing_on c.loop-left.invariant.0 c.loop-left-test.true c.bytes_at-n.ensures, search rules)
+pub returns-in_err-sum : goal.returns-in_err-sum
+returns-in_err-sum c =
+    let h = summing-most c.loop-record.invariant.0 c.loop-record-test.true c.bytes_of.ensures in
+    let k : (c.loop-record.sum + c.bytes_of.result < 2 ^ 64) → ⊥ = c.in_err-sum.ensures in
+    c.from_residual.ensures ∙ total-over (omega arith) ∙ ap (λ us. total_of (sum_of every us)) c.all-record-items.ensures
 
 pub returns : goal.returns
-returns c = total-below (summing-none c.loop-left.invariant.0 c.loop-left-test.false) c.loop-left.invariant.1
-
-pub loop-left-init : goal.loop-left-init
-loop-left-init c = (summing-all every c.args.s.now, search rules)
+returns c = total-below (summing-none c.loop-record.invariant.0 c.loop-record-test.false) c.loop-record.invariant.1 ∙ ap (λ us. total_of (sum_of every us)) c.all-record-items.ensures

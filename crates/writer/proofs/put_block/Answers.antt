@@ -7,7 +7,6 @@ use lib.ListN.{drop}
 use Rattle.words.specs.Word.{◌⊕◌}
 use Rattle.blocks.specs.Blocks.{spell}
 use Rattle.blocks.proofs.Spelling.{spell-xor}
-use borrow.Author.Rules.{rules}
 use Rattle.writer.proofs.put_block.Goals as goal
 
 pub returns : goal.returns

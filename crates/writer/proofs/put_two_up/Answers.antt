@@ -1,8 +1,6 @@
 -- `writer::put_two_up` meets its contract: the second word goes to the part after the first, which is lent and comes back.
 -- Assumes nothing.
-use native.Mathlib.Omega.{arith}
 use Rattle.writer.proofs.Words.{two-put-up}
-use borrow.Author.Rules.{rules}
 use Rattle.writer.proofs.put_two_up.Goals as goal
 
 pub returns : goal.returns

@@ -1,9 +1,7 @@
 -- `writer::put_words` meets its contract: the second word goes to the part after the first, which is lent and comes back.
 -- Assumes nothing.
-use native.Mathlib.Omega.{arith}
 use lib.ListN.{get_or}
 use Rattle.writer.proofs.Words.{two-put}
-use borrow.Author.Rules.{rules}
 use Rattle.writer.proofs.put_words.Goals as goal
 
 pub returns : goal.returns

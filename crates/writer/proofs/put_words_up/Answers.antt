@@ -1,9 +1,7 @@
 -- `writer::put_words_up` meets its contract: the second two words go to the part after the first two, which is lent and comes back.
 -- Assumes nothing.
-use native.Mathlib.Omega.{arith}
 use lib.ListN.{get_or}
 use Rattle.writer.proofs.Words.{four-put-up}
-use borrow.Author.Rules.{rules}
 use Rattle.writer.proofs.put_words_up.Goals as goal
 
 pub returns : goal.returns

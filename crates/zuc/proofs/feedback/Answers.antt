@@ -1,6 +1,6 @@
 -- `zuc::feedback` meets its contract: a fold of a positive number of 62 bits is positive, has 32 bits and has the same remainder.
 -- Assumes nothing.
-use Rattle.std.proofs.Common.{arith, rules}
+use Rattle.std.proofs.Common.{arith}
 use Rattle.zuc.proofs.Folds.{fold-mod, fold-pos, fold-once}
 use Rattle.zuc.proofs.feedback.Goals as goal
 

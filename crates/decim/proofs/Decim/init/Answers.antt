@@ -1,7 +1,6 @@
 -- `decim::Decim::init` meets its contract: what its parts ensure, put together.
 -- Assumes nothing.
 use Rattle.decim.specs.Cipher.{init, lfsr_filled}
-use borrow.Author.Rules.{rules}
 use Rattle.decim.proofs.Decim.init.Goals as goal
 
 pub returns : goal.returns

@@ -3,7 +3,6 @@
 use mathlib.Core.Path.{◌∙◌}
 use Rattle.decim.proofs.Bytes.{ready-byte}
 use Rattle.decim.proofs.Turns.{taken-byte}
-use borrow.Author.Rules.{rules}
 use Rattle.decim.proofs.Decim.output.Goals as goal
 
 pub returns-then-h-lt8 : goal.returns-then-h-lt8

@@ -1,7 +1,6 @@
 -- `decim::start::init_buff` meets its contract: of 32 turns the first four move the register and feed the buffer.
 -- Assumes nothing.
 use Rattle.decim.proofs.Turns.{filling-on}
-use borrow.Author.Rules.{rules}
 use Rattle.decim.proofs.start.init_buff.Goals as goal
 
 pub returns : goal.returns

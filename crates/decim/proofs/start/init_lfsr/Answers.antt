@@ -2,7 +2,6 @@
 -- Assumes nothing.
 use Rattle.words.specs.Lists.{iter}
 use Rattle.decim_register.specs.Register.{init_next_lfsr}
-use borrow.Author.Rules.{rules}
 use Rattle.decim.proofs.start.init_lfsr.Goals as goal
 
 pub returns : goal.returns

@@ -4,7 +4,6 @@ use mathlib.Core.Path.{refl}
 use Rattle.words.proofs.Registers.{cons}
 use Rattle.decim_register.specs.Register.{of_bits}
 use Rattle.decim.specs.Cipher.{loaded}
-use borrow.Author.Rules.{rules}
 use Rattle.decim.proofs.start.load.Goals as goal
 
 pub returns : goal.returns

@@ -2,7 +2,6 @@
 -- Assumes nothing.
 use mathlib.Core.Path.{◌∙◌}
 use Rattle.decim.proofs.Loading.{loaded-key, loaded-both, loaded-four, loaded-iv}
-use borrow.Author.Rules.{rules}
 use Rattle.decim.proofs.start.load_bit.Goals as goal
 
 pub returns-then-j-lt80 : goal.returns-then-j-lt80

@@ -1,19 +1,18 @@
--- `kcipher2::Kcipher2::init` meets its contract. The loop's invariant: the state is that of i steps in INIT mode.
+-- `kcipher2::Kcipher2::init` meets its contract: the loop makes the 24 steps in INIT mode.
 -- Assumes nothing.
-use Rattle.std.proofs.Common.{◌≡◌, ◌-◌, ◌≤◌, refl, arith, rules}
+use Rattle.std.proofs.Common.{◌≡◌, arith, rules}
 use Rattle.words.specs.Lists.{iter}
 use Rattle.words.proofs.Registers.{iter-more}
-use Rattle.kcipher2.specs.Cipher.{init, next_init}
+use Rattle.kcipher2.specs.Cipher.{init}
 use Rattle.kcipher2.proofs.Kcipher2.init.Goals as goal
 
-pub loop-i-init : goal.loop-i-init
-unfolding init iter
-loop-i-init c = (search rules, refl)
+pub loop-init : goal.loop-init
+unfolding iter
+loop-init c = search rules
 
-pub loop-i-preserved : goal.loop-i-preserved
-unfolding init iter
-loop-i-preserved c = (omega arith, rw (c.step_init-s.ensures, c.loop-i.invariant.1, iter-more))
+pub loop-preserved : goal.loop-preserved
+loop-preserved c = rw (c.step_init-s.ensures, c.loop.invariant, iter-more)
 
 pub returns : goal.returns
-unfolding init iter
-returns c = let e : c.loop-i.i ≡ 24 = omega arith in rw (c.loop-i.invariant.1, e, c.load-s.ensures)
+unfolding init
+returns c = let e : c.loop.counter ≡ 24 = omega arith in rw (c.loop.invariant, e, c.load-s.ensures)

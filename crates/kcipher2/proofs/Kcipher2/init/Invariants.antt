@@ -1,13 +1,9 @@
--- `kcipher2::Kcipher2::init` meets its contract. The loop's invariant: the state is that of i steps in INIT mode.
+-- `kcipher2::Kcipher2::init` meets its contract. The loop's invariant: the state is that of as many steps in INIT mode as there were turns.
 -- Assumes nothing.
-use Rattle.std.proofs.Common.{◌≡◌, ◌-◌, ◌≤◌, refl, arith, rules}
+use Rattle.std.proofs.Common.{◌≡◌}
 use Rattle.words.specs.Lists.{iter}
-use Rattle.words.proofs.Registers.{iter-more}
-use Rattle.kcipher2.specs.Cipher.{init, next_init}
+use Rattle.kcipher2.specs.Cipher.{next_init}
 use Rattle.kcipher2.proofs.Kcipher2.init.Given as goal
 
-abbrev pub invariant-loop-i : goal.invariant-loop-i
-invariant-loop-i l = (l.i ≤ 24) × (l.s ≡ iter l.i next_init l.initial.s)
-
-abbrev pub decreases-loop-i : goal.decreases-loop-i
-decreases-loop-i l = 24 - l.i
+abbrev pub invariant-loop : goal.invariant-loop
+invariant-loop l = l.s ≡ iter l.counter next_init l.initial.s

@@ -1,6 +1,5 @@
 -- `kcipher2::Kcipher2::moved` meets its contract: both registers are moved by one.
 -- Assumes nothing.
-use Rattle.std.proofs.Common.{rules}
 use Rattle.kcipher2.proofs.Kcipher2.moved.Goals as goal
 
 pub returns : goal.returns

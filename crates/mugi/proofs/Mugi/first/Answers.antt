@@ -1,7 +1,6 @@
 -- `mugi::Mugi::first` meets its contract: F of a1 and b4.
 -- Assumes nothing.
 use Rattle.mugi.specs.Steps.{first}
-use borrow.Author.Rules.{rules}
 use Rattle.mugi.proofs.Mugi.first.Goals as goal
 
 pub returns : goal.returns

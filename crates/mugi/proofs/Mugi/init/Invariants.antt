@@ -1,16 +1,9 @@
--- `mugi::Mugi::init` meets its contract. The loop's invariant: the state is that of i steps.
+-- `mugi::Mugi::init` meets its contract. The loop's invariant: the state is that of so many steps.
 -- Assumes nothing.
-use mathlib.Core.Path.{◌≡◌, refl}
-use Prim.Native.Nat.{◌-◌, ◌≤◌}
-use native.Mathlib.Omega.{arith}
+use Rattle.std.proofs.Common.{◌≡◌}
 use Rattle.words.specs.Lists.{iter}
-use Rattle.words.proofs.Registers.{iter-more}
-use Rattle.mugi.specs.Cipher.{init, next}
-use borrow.Author.Rules.{rules}
+use Rattle.mugi.specs.Cipher.{next}
 use Rattle.mugi.proofs.Mugi.init.Given as goal
 
-abbrev pub invariant-loop-i : goal.invariant-loop-i
-invariant-loop-i l = (l.i ≤ 16) × (l.s ≡ iter l.i next l.initial.s)
-
-abbrev pub decreases-loop-i : goal.decreases-loop-i
-decreases-loop-i l = 16 - l.i
+abbrev pub invariant-loop : goal.invariant-loop
+invariant-loop l = l.s ≡ iter l.counter next l.initial.s

@@ -1,7 +1,6 @@
 -- `mugi::Mugi::step` meets its contract: the state is moved with what F gives.
 -- Assumes nothing.
 use Rattle.mugi.proofs.Steps.{stepped}
-use borrow.Author.Rules.{rules}
 use Rattle.mugi.proofs.Mugi.step.Goals as goal
 
 pub returns : goal.returns

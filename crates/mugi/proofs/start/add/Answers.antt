@@ -2,7 +2,6 @@
 -- Assumes nothing.
 use mathlib.Core.Path.{refl}
 use Rattle.mugi.specs.Cipher.{added}
-use borrow.Author.Rules.{rules}
 use Rattle.mugi.proofs.start.add.Goals as goal
 
 pub returns : goal.returns

@@ -1,10 +1,8 @@
 -- `mugi::start::keyed` meets its contract. The loop's invariant: a is that of i turns, and the last i blocks of b are a0 of each.
 -- Assumes nothing.
 use mathlib.Core.Path.{◌≡◌}
-use Prim.Native.Nat.{◌-◌}
 use native.Mathlib.Omega.{arith}
-use Rattle.mugi.proofs.Filling.{Turned, none, more, done}
-use borrow.Author.Rules.{rules}
+use Rattle.mugi.proofs.Filling.{none, more, done}
 use Rattle.mugi.proofs.start.keyed.Goals as goal
 
 pub loop-i-init : goal.loop-i-init
@@ -16,5 +14,5 @@ loop-i-preserved c =
 
 pub returns : goal.returns
 returns c =
-    let e : c.loop-i.i ≡ 16 = omega (arith, c.loop-i.invariant.most) in
+    let e : c.loop-i.i ≡ 16 = omega arith in
     done c.loop-i.i c.args.key.now e c.loop-i.invariant c.spread-a.ensures

@@ -1,7 +1,6 @@
 -- `mugi::start::turn` meets its contract: ρ1 without b needs F once.
 -- Assumes nothing.
 use Rattle.mugi.proofs.Steps.{turned_by}
-use borrow.Author.Rules.{rules}
 use Rattle.mugi.proofs.start.turn.Goals as goal
 
 pub returns : goal.returns

@@ -1,7 +1,6 @@
 -- `mugi::start::with_iv` meets its contract: what its parts ensure, put together.
 -- Assumes nothing.
 use Rattle.mugi.specs.Cipher.{with_iv}
-use borrow.Author.Rules.{rules}
 use Rattle.mugi.proofs.start.with_iv.Goals as goal
 
 pub returns : goal.returns

@@ -1,7 +1,6 @@
 -- `rabbit::Rabbit::init` meets its contract: the key's state, with the IV in it, after five steps.
 -- Assumes nothing.
 use Rattle.rabbit.specs.Cipher.{master, started, init}
-use Rattle.std.proofs.Common.{rules}
 use Rattle.rabbit.proofs.Rabbit.init.Goals as goal
 
 pub returns : goal.returns

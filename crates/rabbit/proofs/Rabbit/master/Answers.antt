@@ -1,7 +1,6 @@
 -- `rabbit::Rabbit::master` meets its contract: the loaded state after four steps.
 -- Assumes nothing.
 use Rattle.rabbit.specs.Cipher.{master}
-use Rattle.std.proofs.Common.{rules}
 use Rattle.rabbit.proofs.Rabbit.master.Goals as goal
 
 pub returns : goal.returns

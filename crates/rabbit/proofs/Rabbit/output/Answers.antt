@@ -1,6 +1,6 @@
 -- `rabbit::Rabbit::output` meets its contract: the parts are those of 7.3.4.
 -- Assumes nothing.
-use Rattle.std.proofs.Common.{refl, arith, rules}
+use Rattle.std.proofs.Common.{refl}
 use Rattle.words.proofs.Registers.{cons}
 use Rattle.rabbit.specs.Cipher.{strm}
 use Rattle.rabbit.proofs.Rabbit.output.Goals as goal

@@ -1,7 +1,6 @@
 -- `rabbit::Rabbit::start` meets its contract: the state with the IV in it after five steps.
 -- Assumes nothing.
 use Rattle.rabbit.specs.Cipher.{started}
-use Rattle.std.proofs.Common.{rules}
 use Rattle.rabbit.proofs.Rabbit.start.Goals as goal
 
 pub returns : goal.returns

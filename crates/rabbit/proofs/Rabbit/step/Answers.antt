@@ -1,7 +1,6 @@
 -- `rabbit::Rabbit::step` meets its contract: what its parts ensure, put together.
 -- Assumes nothing.
 use Rattle.rabbit.specs.Cipher.{next}
-use Rattle.std.proofs.Common.{rules}
 use Rattle.rabbit.proofs.Rabbit.step.Goals as goal
 
 pub returns : goal.returns

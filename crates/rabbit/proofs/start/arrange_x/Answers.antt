@@ -1,6 +1,6 @@
 -- `rabbit::start::arrange_x` meets its contract: the parts are those of 7.3.2, step 2.
 -- Assumes nothing.
-use Rattle.std.proofs.Common.{refl, arith, rules}
+use Rattle.std.proofs.Common.{refl}
 use Rattle.words.proofs.Registers.{cons}
 use Rattle.rabbit.specs.Cipher.{arranged}
 use Rattle.rabbit.proofs.start.arrange_x.Goals as goal

@@ -1,7 +1,6 @@
 -- `rabbit::start::four` meets its contract: four steps.
 -- Assumes nothing.
 use Rattle.words.specs.Lists.{iter}
-use Rattle.std.proofs.Common.{rules}
 use Rattle.rabbit.proofs.start.four.Goals as goal
 
 pub returns : goal.returns

@@ -2,7 +2,6 @@
 -- Assumes nothing.
 use Rattle.field.specs.Gf8.{mul8}
 use Rattle.table_rules.proofs.Steps.{joined_by}
-use borrow.Author.Rules.{rules}
 use Rattle.table_rules.proofs.gf8.scaled.Goals as goal
 
 pub returns : goal.returns

@@ -2,7 +2,6 @@
 -- Assumes nothing.
 use Rattle.field.specs.Aes.{affine}
 use Rattle.table_rules.proofs.Steps.{made_of}
-use borrow.Author.Rules.{rules}
 use Rattle.table_rules.proofs.gf8.substituted.Goals as goal
 
 pub returns : goal.returns

@@ -1,6 +1,5 @@
 -- `table_rules::gf8::times_x` meets its contract: a moved up by a digit, and what p has below x^8 where one left above.
 -- Assumes nothing.
-use borrow.Author.Rules.{rules}
 use Rattle.table_rules.proofs.gf8.times_x.Goals as goal
 
 pub returns : goal.returns

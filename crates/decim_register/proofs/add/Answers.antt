@@ -1,9 +1,0 @@
--- `decim_register::add` meets its contract: the definition, operation for operation.
--- Assumes nothing.
-use mathlib.Core.Path.{refl}
-use Rattle.decim_register.specs.Wide.{added}
-use Rattle.decim_register.proofs.add.Goals as goal
-
-pub returns : goal.returns
-unfolding added
-returns c = refl

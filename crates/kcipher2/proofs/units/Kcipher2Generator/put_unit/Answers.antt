@@ -1,0 +1,14 @@
+-- `kcipher2::units::Kcipher2::put_unit` meets its contract: the bytes that the writer writes are those of the unit.
+-- Assumes nothing.
+use mathlib.Core.Path.{ap}
+use mathlib.Core.List.{List, ◌++◌}
+use Prim.Native.Nat.{ℕ}
+use lib.ListN.{get_or}
+use Rattle.words.specs.Strings.{bytes_of}
+use Rattle.kcipher2.specs.Cipher.{strm, unit}
+use Rattle.keystream.proofs.Parts.{put-of}
+use Rattle.kcipher2.proofs.units.Kcipher2Generator.put_unit.Goals as goal
+
+pub returns-clause-put : goal.returns-clause-put
+unfolding unit strm
+returns-clause-put c = put-of 0 8 c.args.text.now c.args.out.now _ (ap (λ (z : List ℕ). bytes_of (get_or z 0 0) ++ bytes_of (get_or z 1 0)) c.output.ensures) c.put_words.ensures

@@ -1,8 +1,0 @@
--- `mugi::start::rotr7` meets its contract: the two parts of a rotation fit a block.
--- Assumes nothing.
-use borrow.Author.Rules.{rules}
-use Rattle.mugi.proofs.Blocks.{rotated}
-use Rattle.mugi.proofs.start.rotr7.Goals as goal
-
-pub overflow_add-result : goal.overflow_add-result
-overflow_add-result c = record { fits = rotated 7 57 (search rules) }
