@@ -33,7 +33,7 @@ use Rattle.sealing_rules.proofs.Streams.{stream-bytes}
 use Rattle.sealing_stream.specs.declared.Walk.{Walk}
 use Rattle.sealing_stream.specs.Walk.{At, Crypted, Read, First, CryptsOn}
 
-fit_on : (c : ℕ) (w : List ℕ) (i : ℕ) → Fit (cipher_at c) w → Fit (cipher_at c) (state_at (cipher_at c).gen w 0 i)
+pub fit_on : (c : ℕ) (w : List ℕ) (i : ℕ) → Fit (cipher_at c) w → Fit (cipher_at c) (state_at (cipher_at c).gen w 0 i)
 unfolding state_at
 fit_on c w i h = iter-keeps (Fit (cipher_at c)) (cipher_at c).gen.next (sound c).next-fit _ w h
 
@@ -148,3 +148,7 @@ passed-found {c} {s} {i = i} h p r e =
 
 pub passed-all : {c : ℕ} {s : List ℕ} {w : Walk} {i : ℕ} → tries ≤ i → Passed c s w i → lowest tries (blocks_from c s) ≡ tries
 passed-all {c} {s} h p = lowest-none tries (blocks_from c s) (λ k q. p.blank k (omega arith))
+
+-- where the walk then stands
+pub passed_end : {c : ℕ} {s : List ℕ} {w : Walk} {i : ℕ} → i ≤ tries → tries ≤ i → Passed c s w i → At c s (8 * tries) w
+passed_end {c} {s} {w} {i} m h p = let e : i ≡ tries = omega arith in subst (λ (k : ℕ). At c s (8 * k) w) e p.stands

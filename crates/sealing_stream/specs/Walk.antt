@@ -39,7 +39,8 @@ pub record CryptsOn (w : Walk) (text out : List ℕ) (w' : Walk) (out' : List �
 
 pub record ReadsNext (w : Walk) (x : ℕ) (w' : Walk) : Type 0 where
   pub read : (c : ℕ) (s : List ℕ) (i : ℕ) → At c s (8 * i) w → Read c s i x w'
+  pub on : (c : ℕ) (s : List ℕ) (n : ℕ) → At c s n w → At c s (n + 8) w'
 
--- the first block that is not 0, from the start of a keystream on; none where all those tried are 0
+-- the first block that is not 0, from the start of a keystream on; none where all those tried are 0, and the walk then stands behind them
 pub record Finds (w : Walk) (r : Option Found) (w' : Walk) : Type 0 where
-  pub found : (c : ℕ) (s : List ℕ) → At c s 0 w → MatchOption r (lowest tries (blocks_from c s) ≡ tries) (λ f. First c s f w')
+  pub found : (c : ℕ) (s : List ℕ) → At c s 0 w → MatchOption r ((lowest tries (blocks_from c s) ≡ tries) × At c s (8 * tries) w') (λ f. First c s f w')

@@ -2,6 +2,8 @@
 // The caller must ensure the lengths of key and IV, and a buffer as long as the text.
 #![tactic(auto)]
 
+mod on_words;
+
 ghost use Rattle.std.specs.Prelude.{◌≡◌, ◌<◌, ◌≤◌, length};
 ghost use Rattle.command.specs.Decode.{number_of};
 ghost use Rattle.card_sizes.specs.Sizes.{key_length, iv_length};
@@ -14,6 +16,7 @@ use card_sizes::STATE;
 use ciphers::{key_of, unit_of};
 use command::Cipher;
 use dispatch::{crypt, first_state};
+pub use on_words::{crypt_on, first, next_block};
 
 // How many blocks are tried for the first that is not 0.
 pub const TRIES: usize = 4096;

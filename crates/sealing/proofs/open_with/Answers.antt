@@ -13,7 +13,7 @@ use Rattle.sealing.proofs.open_with.Goals as goal
 
 pub returns-in_default : goal.returns-in_default
 returns-in_default c =
-    answered-by (open_none _ c.args.redundancy.now c.args.sealed.now (c.in_default.ensures.found _ _ c.start-walk.ensures)) answered-refused
+    answered-by (open_none _ c.args.redundancy.now c.args.sealed.now (c.in_default.ensures.found _ _ c.start-walk.ensures).0) answered-refused
 
 pub returns : goal.returns
 returns c =

@@ -13,7 +13,7 @@ use Rattle.sealing.proofs.seal_with.Goals as goal
 
 pub returns-in_default : goal.returns-in_default
 returns-in_default c =
-    answered-by (seal-none _ c.args.redundancy.now c.args.message.now (c.in_default.ensures.found _ _ c.start-walk.ensures)) answered-refused
+    answered-by (seal-none _ c.args.redundancy.now c.args.message.now (c.in_default.ensures.found _ _ c.start-walk.ensures).0) answered-refused
 
 pub returns : goal.returns
 returns c =
