@@ -54,7 +54,8 @@ pub fn cipher_at(card: &[u32], i: u8) -> u8
     card_line::cipher_of(line_of(card, i))
 }
 
-// Line i of a card is in this mode, with this cipher, this position and this state, and nothing waits.
+// Line i of a card is in this mode, with this cipher, this position and this state, and nothing waits. Compiled into its callers, as what it calls is.
+#[inline(always)]
 pub fn put_line(mode: u32, cipher: u8, n: u64, state: &[u32], card: &mut [u32], i: u8)
     requires card_len { (length card.old ≡ card_size) × (i < line_count) }
     requires state_len { length state.now ≡ state_words }

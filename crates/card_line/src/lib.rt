@@ -84,7 +84,8 @@ pub fn clear(line: &mut [u32])
     line.fill(0);
 }
 
-// The words of a line in this mode with nothing waiting.
+// The words of a line in this mode with nothing waiting. Compiled into its callers: by itself its copy would be a call of `memmove`, since nothing tells there that state and line lie apart.
+#[inline(always)]
 pub fn put_words(mode: u32, cipher: u8, n: u64, state: &[u32], line: &mut [u32])
     requires line_len { length line.old ≡ line_size }
     requires state_len { length state.now ≡ state_words }
