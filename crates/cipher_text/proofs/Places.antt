@@ -3,12 +3,13 @@
 use Prim.Native.Nat.{ℕ, zero, ◌+◌, ◌-◌, ◌*◌, ◌/◌, ◌%◌, ◌<◌, ◌≤◌}
 use mathlib.Core.Path.{◌≡◌, refl, ap, sym, subst, ◌∙◌}
 use Rattle.std.proofs.Common.{◌⊎◌, inl, inr, ◌≢◌}
-use mathlib.Core.List.{List}
-use lib.ListN.{length}
+use mathlib.Core.List.{List, ◌++◌}
+use lib.ListN.{length, get_or, take, drop, length-append}
+use Rattle.std.proofs.lemmas.List.{length-take-le, take-take, drop-take}
 use native.Mathlib.Omega.{arith}
 use native.Mathlib.Nat.{le-div_iff_mul-le, div-add-mod', add-mul, mul-mod_left, mul-div_left, zero-mul, zero-add}
-use Rattle.keystream.specs.Stream.{Gen, BytesPut, PartCrypted}
-use Rattle.keystream.proofs.Parts.{part_end, Running, running-start, running-unit, running-turn, running-end, aligned, put-at, lent_from, back_from, did-lent, tail-length}
+use Rattle.keystream.specs.Stream.{Gen, byte_at, xor_from, BytesPut, UnitPut, PartCrypted}
+use Rattle.keystream.proofs.Parts.{part_end, Running, running-start, running-unit, running-turn, running-end, turning-start, turning-unit, turning-end, did-length, aligned, put-at, put-tail, lent_from, back_from, did-lent, tail-length}
 
 -- the next of as many as fit
 next_fits : {i n : ℕ} (u : ℕ) → zero < u → i < n / u → i * u + u ≤ n
@@ -58,6 +59,38 @@ module _ {S : Type 0} (g : Gen S) {u : ℕ} (pos : zero < u) (unit-is : g.unit �
   -- a unit, and a step
   pub unit-done : {cur : S} {out : List ℕ} → u ≤ length text → BytesPut (g.strm s) 0 u text out₀ out → cur ≡ g.next s → PartCrypted g 0 s u text out₀ cur out
   unit-done {out = out} h p e = part_end g (omega arith) 0 u s text out₀ out (g.strm s) refl h p (zero-add u ∙ sym unit-is) e
+
+  -- Two units, each written where the one before it ended, are a turn. The text may go on behind them.
+  pub paired : {cur cur' : S} {out o' : List ℕ} {v : ℕ} → v ≡ u → 2 * u ≤ length text → 2 * u ≤ length out₀ → BytesPut (g.strm s) 0 u text out₀ out → cur ≡ g.next s
+      → BytesPut (g.strm cur) 0 u (lent_from v text) (lent_from v out) o' → cur' ≡ g.next cur → PartCrypted g 0 s (2 * u) text out₀ cur' (back_from v out o')
+  paired {cur} {cur'} {out} {o'} {v} e h q p n p' n' =
+      let both : List ℕ = take (u + u) text in
+      let end : List ℕ = back_from u out o' in
+      let many : length both ≡ u + u = length-take-le (u + u) text (omega arith) in
+      let l : length out ≡ length out₀ = did-length g (omega arith) (omega arith) (omega arith) (unit-done (omega arith) p n) in
+      let first : UnitPut (g.strm s) u both (0 + 0) out₀ out =
+      p
+      ∙ ap (λ (t : List ℕ). xor_from (λ j. get_or (g.strm s) j 0) 0 t ++ drop u out₀) (sym (take-take u (u + u) text (omega arith)))
+      ∙ ap (λ (k : ℕ). xor_from (λ j. get_or (g.strm s) j 0) 0 (take u both) ++ drop k out₀) (sym (zero-add u)) in
+      let lent : BytesPut (g.strm cur) 0 u (lent_from u text) (lent_from u out) o' = subst (λ (k : ℕ). BytesPut (g.strm cur) 0 u (lent_from k text) (lent_from k out) o') e p' in
+      let behind : UnitPut (g.strm cur) u both u out end =
+      put-at refl u text u out o' (omega arith) lent
+      ∙ ap (λ (t : List ℕ). take u out ++ (xor_from (λ j. get_or (g.strm cur) j 0) 0 t ++ drop (u + u) out))
+      (sym (ap (take u) (drop-take u u text) ∙ take-take u u (drop u text) (omega arith))) in
+      let second : UnitPut (g.strm cur) u both (0 + (0 + u)) out end = subst (λ (k : ℕ). UnitPut (g.strm cur) u both k out end) (sym (zero-add (0 + u) ∙ zero-add u)) behind in
+      let kept : length o' ≡ length (lent_from u out) =
+      did-length g (omega arith) (omega (arith, tail-length u text)) (omega (arith, tail-length u out))
+      (part_end g (omega arith) 0 u cur (lent_from u text) (lent_from u out) o' (g.strm cur) refl (omega (arith, tail-length u text)) lent (zero-add u ∙ sym unit-is) n') in
+      let wrote : length end ≡ length out =
+      ap length (put-tail u out o' (omega arith)) ∙ length-append (take u out) o' ∙ omega (arith, kept, tail-length u out, length-take-le u out (let z : u ≤ length out = omega arith in z)) in
+      let t₁ = turning-unit g u pos unit-is (u + u) {s = s} {text = both} {out₀ = out₀} {at = 0} (omega arith) (omega arith) (turning-start g u pos unit-is (u + u)) l first n in
+      let t₂ = turning-unit g u pos unit-is (u + u) (omega arith) (omega arith) t₁ wrote second n' in
+      let r = turning-end g u pos unit-is (u + u) (omega arith) (omega arith) t₂ (running-start g u pos unit-is) in
+      let d : PartCrypted g 0 s (u + u) both out₀ cur' end = subst (λ (k : ℕ). PartCrypted g 0 s k both out₀ cur' end) (zero-add (u + u)) r.did in
+      let all : PartCrypted g 0 s (u + u) text out₀ cur' end =
+      record { state-is = d.state-is; out-is = d.out-is ∙ ap (λ (t : List ℕ). xor_from (byte_at g s 0) 0 t ++ drop (u + u) out₀) (take-take (u + u) (u + u) text (omega arith)) } in
+      let sum : u + u ≡ 2 * u = omega arith in
+      subst (λ (k : ℕ). PartCrypted g 0 s k text out₀ cur' (back_from v out o')) sum (subst (λ (k : ℕ). PartCrypted g 0 s (u + u) text out₀ cur' (back_from k out o')) (sym e) all)
 
   -- whole units, and as many again
   pub doubled : {cur cur' : S} {out o' : List ℕ} {a n v : ℕ} (k : ℕ) → a ≡ k * u → n ≡ a + a → v ≡ a → n ≤ length text → n ≤ length out₀ → PartCrypted g 0 s a text out₀ cur out

@@ -5,7 +5,6 @@ use Prim.Native.Nat.{ℕ}
 use native.Mathlib.Omega.{arith}
 use Rattle.keystream.specs.Stream.{PartCrypted}
 use Rattle.keystream.proofs.Parts.{did_none, part_end, part-within}
-use borrow.Author.Rules.{rules}
 use Rattle.cipher_text.proofs.part.Goals as goal
 
 pub returns-then-used-eq0 : goal.returns-then-used-eq0
