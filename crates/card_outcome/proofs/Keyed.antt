@@ -19,7 +19,7 @@ use Rattle.card_outcome.specs.Leaves.{EffectLeaves}
 use Rattle.card_outcome.proofs.Laws.{given-true, given-false, given-refusal}
 
 module _ (ws text out : List ℕ) where
-  given-code : (e' : Effect) (c : ℕ) (key iv : List ℕ) {k : ℕ} {r : Outcome} → k ≡ key_code c key iv → (key_code c key iv ≡ 0 → ⊥) → r ≡ refusal k →
+  pub given-code : (e' : Effect) (c : ℕ) (key iv : List ℕ) {k : ℕ} {r : Outcome} → k ≡ key_code c key iv → (key_code c key iv ≡ 0 → ⊥) → r ≡ refusal k →
       EffectLeaves ws text out (keyed_with c key iv e') r ws out
   given-code e' c key iv {k} {r} e f g = by (spare_used c key iv) (blank_key c key) refl refl
     where
