@@ -21,7 +21,7 @@ pub use on_words::{crypt_on, first, next_block};
 // How many blocks are tried for the first that is not 0.
 pub const TRIES: usize = 4096;
 
-// The first block that is not 0, and its index.
+// The first block that is not 0, and its index; of `first` over borrowed words TRIES where there is none.
 #[derive(Clone, Copy)]
 pub struct Found {
     pub t: usize,
