@@ -1,12 +1,14 @@
 -- A walk along the keystream of S(0) of a cipher over borrowed words: words that hold the state at a byte, a text crypted from there on, the next block,
 -- and the first that is not 0.
 -- Assumes nothing.
-use Rattle.std.specs.Prelude.{◌≡◌, List, ◌++◌, ℕ, ◌+◌, ◌*◌, ◌/◌, ◌<◌, length, drop}
+use Rattle.std.specs.Prelude.{◌≡◌, List, ◌++◌, ℕ, ◌+◌, ◌*◌, ◌/◌, ◌%◌, ◌<◌, length, drop}
 use Rattle.keystream.specs.Stream.{state_at, xor_from}
 use Rattle.ciphers.specs.Table.{cipher_at}
 use Rattle.ciphers.specs.Fit.{Fit}
 use Rattle.multi_s01.specs.Stream.{lowest, tries}
 use Rattle.sealing_rules.specs.Sealing.{stream_bytes, blocks_from}
+use Rattle.command.specs.Decode.{number_of}
+use Rattle.sealing_stream.specs.declared.Walk.{Walk}
 
 -- w holds the state of the unit in which byte n lies
 pub record At (c : ℕ) (s : List ℕ) (n : ℕ) (w : List ℕ) : Type 0 where
@@ -42,3 +44,9 @@ pub record ReadsNext (c i : ℕ) (w : List ℕ) (x : ℕ) (w' : List ℕ) : Type
 pub record Finds (c : ℕ) (s : List ℕ) (t a : ℕ) (w' : List ℕ) : Type 0 where
   pub found : First c s t a w'
   pub fit : Fit (cipher_at c) w'
+
+-- a walk at byte n that has the words w
+pub record Lent (c : ℕ) (w : List ℕ) (n : ℕ) (v : Walk) : Type 0 where
+  pub cipher : number_of v.cipher ≡ c
+  pub words : v.words ≡ w
+  pub skip : v.skip ≡ n % (cipher_at c).gen.unit
